@@ -1,0 +1,10 @@
+-- Document 01's starred cases hold of the definitions: one computed theorem over the table. Assumes nothing.
+use mathlib.Core.Path.{_≡_, refl}
+use mathlib.Core.List.{List, map}
+use Prim.Native.Nat.{ℕ}
+use Rattle.hogunlas.specs.Cases.{Case, starred}
+use Rattle.hogunlas.proofs.Definitions.{definitions}
+
+pub starred-cases : map (λ (c : Case). c .computed) starred ≡ map (λ (c : Case). c .stated) starred
+unfolding starred definitions
+starred-cases = refl

@@ -1,0 +1,96 @@
+-- Worked examples of document 01 ("Line and bench", "Cases", "Mistakes that look reasonable"), computed by the definitions. Assumes
+-- nothing.
+use mathlib.Core.Path.{_≡_, refl}
+use mathlib.Core.Bool.{Bool, true, false}
+use mathlib.Core.List.{List, [], _∷_, _++_, map}
+use Prim.Native.Nat.{ℕ, zero, suc, _+_}
+use lib.ListN.{length, replicate}
+use Rattle.machine.specs.Block.{coveredFrom}
+use Rattle.machine.specs.Run.{run}
+use Rattle.machine.specs.State.{State, start}
+use Rattle.printout.specs.Text.{ascii}
+use Rattle.program.specs.declared.instruction.Instruction.{Instruction}
+use Rattle.program.specs.declared.instruction.Instruction.the-variants.{Atomic, End}
+use Rattle.hogunlas.specs.Calls.{benchOutput}
+use Rattle.hogunlas.specs.Cases.{reportOf, ranOf, file, twoThreads, guardedVariable, openVariable, TAKE, GIVE, READ, WRITE, ATOMIC, END}
+use Rattle.hogunlas.proofs.Definitions.{definitions}
+
+-- "Given .. it prints exactly": the example file and its ten lines
+abbrev example : List ℕ
+example =
+    0x01 ∷ 0x01 ∷ 0x01 ∷ 0x00 ∷ 0x06 ∷ 0x00 ∷ 0x00 ∷ 0x00 ∷ 0x00 ∷ 0x00 ∷ 0x05 ∷ 0x00 ∷ 0x0C
+    ∷ 0x20 ∷ 0x00 ∷ 0x00 ∷ 0x00 ∷ 0x10 ∷ 0x02 ∷ 0x00 ∷ 0x00 ∷ 0x21 ∷ 0x00 ∷ 0x00 ∷ 0x00 ∷ []
+
+pub example-printout : benchOutput example ≡ ascii
+    "01 version 1\n01 locks 1\n01 threads 1\n0006 variables 1\n00 00 00000005 v0 guarded k0 5\n000C thread 0 code 3\n20 00 00 00 0 TAKE k0 R\n10 02 00 00 1 READ r2 v0 B\n21 00 00 00 2 GIVE k0 L\nthread 0 A\n"
+unfolding definitions
+example-printout = refl
+
+-- "Empty file, 1 at 0"
+pub empty-file : benchOutput [] ≡ ascii "refused 1 at 0\n"
+unfolding definitions
+empty-file = refl
+
+-- "Empty list: the start state"
+pub empty-list : (p : Rattle.program.specs.Layout.Program) → run p [] .state ≡ start p
+unfolding definitions
+empty-list p = refl
+
+-- "READ put before TAKE: 9 at 13"
+pub read-before-take : reportOf (file guardedVariable (READ ++ TAKE ++ GIVE)) ≡ 9 ∷ 13 ∷ []
+unfolding definitions
+read-before-take = refl
+
+-- n blocks, each within the one before: n ATOMICs and n ENDs
+abbrev nested : ℕ → List ℕ
+nested zero = []
+nested (suc k) = ATOMIC (k + k + 1) ++ nested k ++ END
+
+-- "16 entries open pass, the 17th gives 8", at the 17th ATOMIC, whose offset is 13 + 4 * 16
+pub sixteen-open : reportOf (file guardedVariable (nested 16)) ≡ replicate 16 1 ++ replicate 16 0 ++ 1 ∷ []
+unfolding definitions
+sixteen-open = refl
+
+pub seventeen-open : reportOf (file guardedVariable (nested 17)) ≡ 8 ∷ 77 ∷ []
+unfolding definitions
+seventeen-open = refl
+
+abbrev WHILE : ℕ → List ℕ
+WHILE n = 0x32 ∷ 0x00 ∷ 0x00 ∷ n ∷ []
+
+abbrev AGAIN : ℕ → List ℕ
+AGAIN n = 0x33 ∷ 0x00 ∷ 0x00 ∷ n ∷ []
+
+-- "A WHILE around TAKE, GIVE: T outside a block, 13 within one"
+pub while-outside : reportOf (file guardedVariable (WHILE 3 ++ TAKE ++ GIVE ++ AGAIN 3)) ≡ 5 ∷ 3 ∷ 2 ∷ 0 ∷ 5 ∷ []
+unfolding definitions
+while-outside = refl
+
+pub while-within : reportOf (file guardedVariable (ATOMIC 5 ++ WHILE 3 ++ TAKE ++ GIVE ++ AGAIN 3 ++ END)) ≡ 13 ∷ 33 ∷ []
+unfolding definitions
+while-within = refl
+
+abbrev IF : ℕ → List ℕ
+IF n = 0x30 ∷ 0x00 ∷ 0x00 ∷ n ∷ []
+
+abbrev ELSE : ℕ → List ℕ
+ELSE n = 0x31 ∷ 0x00 ∷ 0x00 ∷ n ∷ []
+
+-- "keeping the then part's locks for the else part": the ELSE part begins with the set at the IF, so its GIVE is 11 at the GIVE
+pub else-part-locks : reportOf (file guardedVariable (IF 2 ++ TAKE ++ ELSE 2 ++ GIVE ++ END)) ≡ 11 ∷ 25 ∷ []
+unfolding definitions
+else-part-locks = refl
+
+-- and two parts that end with different sets are 12 at the IF's END
+pub parts-differ : reportOf (file guardedVariable (IF 2 ++ TAKE ++ ELSE 1 ++ END ++ GIVE)) ≡ 12 ∷ 25 ∷ []
+unfolding definitions
+parts-differ = refl
+
+-- `inside`: "counting a thread at its ATOMIC as inside"; "treating the END of a block as already outside". Blocks at places 0 to 3 and,
+-- nested, 1 to 2; then nothing at 4
+abbrev blocks : List Instruction
+blocks = Atomic 3 ∷ Atomic 1 ∷ End ∷ End ∷ []
+
+pub inside-places : map (coveredFrom 0 blocks) (0 ∷ 1 ∷ 2 ∷ 3 ∷ 4 ∷ []) ≡ false ∷ true ∷ true ∷ true ∷ false ∷ []
+unfolding definitions
+inside-places = refl

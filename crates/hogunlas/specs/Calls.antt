@@ -1,0 +1,112 @@
+-- What each public call answers, and what its buffer then holds (document 01, "Atomicities", "The step machine", "Line and bench";
+-- "Who can bring a number about" for the order of the refusals).
+use Prim.Native.Nat.{ℕ, _+_, _*_}
+use mathlib.Core.Bool.{Bool}
+use mathlib.Core.List.{List, [], _∷_, _++_}
+use lib.ListN.{length, getD, take, drop}
+use lib.Dec.{ltb, leb}
+use Rattle.judge.specs.Acceptance.{Accepted, accept}
+use Rattle.machine.specs.Run.{Run, Counts, run}
+use Rattle.machine.specs.State.{stateBytes}
+use Rattle.printout.specs.Line.{lines, refusalLine}
+use Rattle.program.specs.Choice.{Answer, fine, refused, _>>=_, _>>_, require, firstBad}
+use Rattle.program.specs.Layout.{Program}
+use Rattle.program.specs.declared.found.Found.{Found}
+use Rattle.program.specs.declared.found.Found.the-variants.{Nowhere, At}
+use Rattle.program.specs.declared.refusal.Refusal.{Refusal}
+use Rattle.program.specs.declared.refusal.Refusal.the-variants.{LongList, ThreadNumber, ShortBuffer, LineNumber}
+use Rattle.hogunlas.specs.declared.Judged.{Judged}
+use Rattle.hogunlas.specs.declared.Judged.the-variants as judged
+use Rattle.hogunlas.specs.declared.Ran.{Ran}
+use Rattle.hogunlas.specs.declared.Ran.the-variants as ran
+use Rattle.hogunlas.specs.declared.Printed.{Printed}
+use Rattle.hogunlas.specs.declared.Printed.the-variants as printed
+
+-- The lent buffer
+
+-- "later bytes are kept"
+unfoldable pub laidOver : (bytes buffer : List ℕ) → List ℕ
+laidOver bytes buffer = bytes ++ drop (length bytes) buffer
+
+-- what the buffer holds after a call that writes these bytes, or is refused
+abbrev pub bufferAfter : {A : Type 0} → (A → List ℕ) → Answer A → List ℕ → List ℕ
+bufferAfter bytes (fine a) buffer = laidOver (bytes a) buffer
+bufferAfter bytes (refused r) buffer = buffer
+
+-- judge
+
+-- the report's bytes for a buffer of `room` bytes. "Judge: 16"
+unfoldable pub judgeAnswer : List ℕ → (room : ℕ) → Answer (List ℕ)
+judgeAnswer s room = do
+  a ← accept s
+  require (leb (length (a .report)) room) (ShortBuffer (length (a .report)))
+  fine (a .report)
+
+-- "Judge returns its length"
+abbrev pub judgedOf : Answer (List ℕ) → Judged
+judgedOf (fine report) = judged.Report (length report)
+judgedOf (refused r) = judged.Refused r
+
+unfoldable pub judgeBuffer : List ℕ → List ℕ → List ℕ
+judgeBuffer s buffer = bufferAfter (λ (report : List ℕ). report) (judgeAnswer s (length buffer)) buffer
+
+-- run
+
+-- "That makes 4 bytes a variable, 1 a lock and 34 a thread"
+unfoldable pub stateSize : Program → ℕ
+stateSize p = 4 * length (p .variables) + p .locks + 34 * length (p .threads)
+
+-- go on if every thread number of the list is below the count
+abbrev pub requireThreads : {A : Type 0} → Found → Answer A → Answer A
+requireThreads Nowhere rest = rest
+requireThreads (At i) rest = refused (ThreadNumber i)
+
+-- the run for a list and a buffer of `room` bytes. "14, list above 65,536 (D 65,536); 15, thread number too large (D its first
+-- index); 16"
+unfoldable pub runAnswer : List ℕ → (list : List ℕ) → (room : ℕ) → Answer Run
+runAnswer s list room = do
+  a ← accept s
+  require (leb (length list) 65536) (LongList 65536)
+  requireThreads (firstBad (λ i. ltb (getD list i 0) (length (a .program .threads))) 1 (length list) 0)
+  require (leb (stateSize (a .program)) room) (ShortBuffer (stateSize (a .program)))
+  fine (run (a .program) list)
+
+-- "Run returns the counts moved, waiting and idle"
+abbrev pub ranOf : Answer Run → Ran
+ranOf (fine r) = ran.Counts (r .counts .moved) (r .counts .waiting) (r .counts .idle)
+ranOf (refused r) = ran.Refused r
+
+unfoldable pub runBuffer : List ℕ → List ℕ → List ℕ → List ℕ
+runBuffer s list buffer = bufferAfter (λ (r : Run). stateBytes (r .state)) (runAnswer s list (length buffer)) buffer
+
+-- line
+
+-- line i for a buffer of `room` bytes. "17, i not below the line count (D that count); 16"; "a buffer of 48 bytes or more"
+unfoldable pub lineAnswer : List ℕ → (i room : ℕ) → Answer (List ℕ)
+lineAnswer s i room = do
+  a ← accept s
+  require (ltb i (length (lines s (a .program) (a .report)))) (LineNumber (length (lines s (a .program) (a .report))))
+  require (leb 48 room) (ShortBuffer 48)
+  fine (getD (lines s (a .program) (a .report)) i [])
+
+-- "result: its length"
+abbrev pub printedOf : Answer (List ℕ) → Printed
+printedOf (fine text) = printed.Line (length text)
+printedOf (refused r) = printed.Refused r
+
+unfoldable pub lineBuffer : List ℕ → ℕ → List ℕ → List ℕ
+lineBuffer s i buffer = bufferAfter (λ (text : List ℕ). text) (lineAnswer s i (length buffer)) buffer
+
+-- bench
+
+unfoldable pub joined : List (List ℕ) → List ℕ
+joined [] = []
+joined (l ∷ ls) = l ++ joined ls
+
+abbrev pub outputOf : List ℕ → Answer Accepted → List ℕ
+outputOf s (fine a) = joined (lines s (a .program) (a .report))
+outputOf s (refused r) = refusalLine r
+
+-- "prints all lines, or `refused N at D` and a newline. It reads at most 33,174 bytes"
+unfoldable pub benchOutput : List ℕ → List ℕ
+benchOutput s = outputOf (take 33174 s) (accept (take 33174 s))

@@ -1,0 +1,28 @@
+-- Sound and accepted files (document 01, "Who can bring a number about").
+use Prim.Native.Nat.{ℕ}
+use mathlib.Core.List.{List}
+use Rattle.program.specs.Choice.{Answer, fine, refused, _>>=_}
+use Rattle.program.specs.Layout.{Program, programOf, reading}
+use Rattle.program.specs.declared.layout.Reading.{Reading}
+use Rattle.program.specs.declared.layout.Reading.the-variants.{Sound, Refused}
+use Rattle.judge.specs.Judging.{judgeProgram}
+
+abbrev pub programRead : List ℕ → Reading → Answer Program
+programRead s (Sound l) = fine (programOf s l)
+programRead s (Refused r) = refused r
+
+-- "A file with none of these offences is sound"
+unfoldable pub sound : List ℕ → Answer Program
+sound s = programRead s (reading s)
+
+-- an accepted file: its program and its report
+pub record Accepted : Type 0 where
+  pub program : Program
+  pub report : List ℕ
+
+-- "A sound file with none of these is accepted"
+unfoldable pub accept : List ℕ → Answer Accepted
+accept s = do
+  p ← sound s
+  report ← judgeProgram p
+  fine (record { program = p; report = report })

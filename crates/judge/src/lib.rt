@@ -1,0 +1,2 @@
+// The lock discipline and the atomicities of a station program (document 01, "Lock discipline", "Atomicities").
+pub mod lock_set;

@@ -1,0 +1,51 @@
+-- The state (document 01, "The step machine": "the variables, each lock (0 free, or thread number plus 1), and for each thread its
+-- place and eight registers"), its start, and its bytes.
+use Prim.Native.Nat.{ℕ, _/_, _%_}
+use mathlib.Core.List.{List, [], _∷_, _++_, map}
+use lib.ListN.{getD, replicate}
+use Rattle.program.specs.Layout.{Program, CodeSection}
+use Rattle.program.specs.Variable.{Variable}
+use Rattle.program.specs.declared.instruction.Instruction.{Instruction}
+use Rattle.machine.specs.declared.thread.Thread.{Thread}
+
+pub record State : Type 0 where
+  pub variables : List ℕ
+  pub locks : List ℕ
+  pub threads : List Thread
+
+-- "places and registers 0"
+unfoldable pub fresh : Thread
+fresh = record { place = 0; registers = replicate 8 0 }
+
+-- "Start: initial values, locks free, places and registers 0"
+unfoldable pub start : Program → State
+start p = record
+  { variables = map (λ (v : Variable). v .initial) (p .variables)
+  ; locks = replicate (p .locks) 0
+  ; threads = map (λ (c : CodeSection). fresh) (p .threads)
+  }
+
+-- a thread's code, and its part of the state
+unfoldable pub codeOf : Program → ℕ → List Instruction
+codeOf p t = getD (p .threads) t (record { start = 0; code = [] }) .code
+
+unfoldable pub threadOf : State → ℕ → Thread
+threadOf s t = getD (s .threads) t fresh
+
+-- "numbers big-endian": of two and of four bytes
+unfoldable pub pairBytes : ℕ → List ℕ
+pairBytes n = n / 256 % 256 ∷ n % 256 ∷ []
+
+unfoldable pub wordBytes : ℕ → List ℕ
+wordBytes n = n / 16777216 % 256 ∷ n / 65536 % 256 ∷ n / 256 % 256 ∷ n % 256 ∷ []
+
+unfoldable pub each : {A : Type 0} → (A → List ℕ) → List A → List ℕ
+each bytes [] = []
+each bytes (x ∷ xs) = bytes x ++ each bytes xs
+
+unfoldable pub threadBytes : Thread → List ℕ
+threadBytes th = pairBytes (th .place) ++ each wordBytes (th .registers)
+
+-- "variables (4 bytes each), locks (1 each), then for each thread its place (2) and registers (4 each)"
+unfoldable pub stateBytes : State → List ℕ
+stateBytes s = each wordBytes (s .variables) ++ s .locks ++ each threadBytes (s .threads)

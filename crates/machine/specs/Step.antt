@@ -1,0 +1,149 @@
+-- One entry of the list: a step of a thread (document 01, "The step machine").
+use Prim.Native.Nat.{ℕ, _+_, _-_, _%_, _^_}
+use mathlib.Core.Bool.{Bool, true, false, not}
+use mathlib.Core.List.{List}
+use lib.ListN.{length, getD, set}
+use lib.Dec.{ltb, eqb}
+use Rattle.program.specs.Choice.{choose}
+use Rattle.program.specs.Layout.{Program}
+use Rattle.program.specs.declared.instruction.Instruction.{Instruction}
+use Rattle.program.specs.declared.instruction.Instruction.the-variants.{Set, Copy, Add, Sub, Less, Read, Write, Take, Give, If, Else, While, Again, Atomic, End}
+use Rattle.machine.specs.State.{State, codeOf, threadOf}
+use Rattle.machine.specs.declared.thread.Outcome.{Outcome}
+use Rattle.machine.specs.declared.thread.Outcome.the-variants.{Moved, Waiting, Idle}
+use Rattle.machine.specs.declared.thread.Thread.{Thread}
+
+-- The shared access that an instruction makes
+
+pub data Access : Type 0 where
+  none : Access
+  reads : (v : ℕ) → Access
+  writes : (v a : ℕ) → Access
+  takes gives : (k : ℕ) → Access
+
+unfoldable pub accessOf : Instruction → Access
+accessOf (Set a n) = none
+accessOf (Copy a b) = none
+accessOf (Add a b c) = none
+accessOf (Sub a b c) = none
+accessOf (Less a b c) = none
+accessOf (Read a v) = reads v
+accessOf (Write a v) = writes v a
+accessOf (Take k) = takes k
+accessOf (Give k) = gives k
+accessOf (If a n) = none
+accessOf (Else n) = none
+accessOf (While a n) = none
+accessOf (Again n) = none
+accessOf (Atomic n) = none
+accessOf End = none
+
+-- "TAKE of a lock that is not free"
+unfoldable pub waits : Access → List ℕ → Bool
+waits none locks = false
+waits (reads v) locks = false
+waits (writes v a) locks = false
+waits (takes k) locks = not (eqb (getD locks k 0) 0)
+waits (gives k) locks = false
+
+-- the value that a READ finds
+unfoldable pub valueRead : Access → List ℕ → ℕ
+valueRead none variables = 0
+valueRead (reads v) variables = getD variables v 0
+valueRead (writes v a) variables = 0
+valueRead (takes k) variables = 0
+valueRead (gives k) variables = 0
+
+-- a WRITE stores its register
+unfoldable pub variablesAfter : Access → (registers variables : List ℕ) → List ℕ
+variablesAfter none registers variables = variables
+variablesAfter (reads v) registers variables = variables
+variablesAfter (writes v a) registers variables = set variables v (getD registers a 0)
+variablesAfter (takes k) registers variables = variables
+variablesAfter (gives k) registers variables = variables
+
+-- "TAKE sets the lock, GIVE frees it"
+unfoldable pub locksAfter : Access → (thread : ℕ) (locks : List ℕ) → List ℕ
+locksAfter none t locks = locks
+locksAfter (reads v) t locks = locks
+locksAfter (writes v a) t locks = locks
+locksAfter (takes k) t locks = set locks k (t + 1)
+locksAfter (gives k) t locks = set locks k 0
+
+-- The thread's own part
+
+-- a register's value
+abbrev pub reg : List ℕ → ℕ → ℕ
+reg registers a = getD registers a 0
+
+-- the registers afterwards, where a READ finds this value ("The file": the table; "modulo 2^32"; "SUB takes c from b")
+unfoldable pub registersAfter : Instruction → (value : ℕ) → List ℕ → List ℕ
+registersAfter (Set a n) x r = set r a n
+registersAfter (Copy a b) x r = set r a (reg r b)
+registersAfter (Add a b c) x r = set r a ((reg r b + reg r c) % 2 ^ 32)
+registersAfter (Sub a b c) x r = set r a ((reg r b + (2 ^ 32 - reg r c)) % 2 ^ 32)
+registersAfter (Less a b c) x r = set r a (choose (ltb (reg r b) (reg r c)) 1 0)
+registersAfter (Read a v) x r = set r a x
+registersAfter (Write a v) x r = r
+registersAfter (Take k) x r = r
+registersAfter (Give k) x r = r
+registersAfter (If a n) x r = r
+registersAfter (Else n) x r = r
+registersAfter (While a n) x r = r
+registersAfter (Again n) x r = r
+registersAfter (Atomic n) x r = r
+registersAfter End x r = r
+
+-- "IF and WHILE go to the next place if the register is not 0, else one past the named place. ELSE goes to its END. AGAIN goes to its
+-- WHILE. All others go to the next place"
+unfoldable pub branch : List ℕ → (a n place : ℕ) → ℕ
+branch r a n place = choose (eqb (reg r a) 0) (place + n + 1) (place + 1)
+
+unfoldable pub placeAfter : Instruction → List ℕ → ℕ → ℕ
+placeAfter (Set a n) r place = place + 1
+placeAfter (Copy a b) r place = place + 1
+placeAfter (Add a b c) r place = place + 1
+placeAfter (Sub a b c) r place = place + 1
+placeAfter (Less a b c) r place = place + 1
+placeAfter (Read a v) r place = place + 1
+placeAfter (Write a v) r place = place + 1
+placeAfter (Take k) r place = place + 1
+placeAfter (Give k) r place = place + 1
+placeAfter (If a n) r place = branch r a n place
+placeAfter (Else n) r place = place + n
+placeAfter (While a n) r place = branch r a n place
+placeAfter (Again n) r place = place - n
+placeAfter (Atomic n) r place = place + 1
+placeAfter End r place = place + 1
+
+unfoldable pub threadAfter : Instruction → (value : ℕ) → Thread → Thread
+threadAfter i x th = record { place = placeAfter i (th .registers) (th .place); registers = registersAfter i x (th .registers) }
+
+-- The step
+
+-- the instruction at a thread's place
+unfoldable pub instructionOf : Program → ℕ → State → Instruction
+instructionOf p t s = getD (codeOf p t) (threadOf s t .place) End
+
+-- "otherwise the thread moves"
+unfoldable pub moveBy : Instruction → ℕ → State → State
+moveBy i t s = record
+  { variables = variablesAfter (accessOf i) (threadOf s t .registers) (s .variables)
+  ; locks = locksAfter (accessOf i) t (s .locks)
+  ; threads = set (s .threads) t (threadAfter i (valueRead (accessOf i) (s .variables)) (threadOf s t))
+  }
+
+-- "place equal to the code's length: idle"; "TAKE of a lock that is not free: waiting"; "otherwise the thread moves"
+unfoldable pub outcome : Program → ℕ → State → Outcome
+outcome p t s =
+    choose (eqb (threadOf s t .place) (length (codeOf p t))) Idle
+    (choose (waits (accessOf (instructionOf p t s)) (s .locks)) Waiting
+    Moved)
+
+abbrev pub after : Outcome → (unchanged moved : State) → State
+after Moved s s′ = s′
+after Waiting s s′ = s
+after Idle s s′ = s
+
+unfoldable pub step : Program → ℕ → State → State
+step p t s = after (outcome p t s) s (moveBy (instructionOf p t s) t s)

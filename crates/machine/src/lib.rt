@@ -1,0 +1,2 @@
+// The step machine (document 01, "The step machine").
+pub mod thread;

@@ -1,0 +1,5 @@
+-- The printout (document 01, "Line and bench"), in its order; what a reader must believe.
+--     Text   hexadecimal, decimal and fixed texts
+--     Line   every line
+pub mod Text
+pub mod Line

@@ -1,0 +1,107 @@
+-- Every line of the printout, in order (document 01, "Line and bench").
+use Prim.Native.Nat.{ℕ, zero, suc, _+_, _-_, _*_}
+use Prim.Native.String.{String}
+use mathlib.Core.List.{List, [], _∷_, _++_}
+use lib.ListN.{length, getD, take, drop}
+use Rattle.program.specs.Field.{byteAt}
+use Rattle.program.specs.Layout.{Program, CodeSection}
+use Rattle.program.specs.Refusal.{numberOf, detailOf}
+use Rattle.program.specs.Variable.{Variable}
+use Rattle.program.specs.declared.instruction.Instruction.{Instruction}
+use Rattle.program.specs.declared.instruction.Instruction.the-variants.{Set, Copy, Add, Sub, Less, Read, Write, Take, Give, If, Else, While, Again, Atomic, End}
+use Rattle.program.specs.declared.refusal.Refusal.{Refusal}
+use Rattle.program.specs.declared.variable.Kind.{Kind}
+use Rattle.program.specs.declared.variable.Kind.the-variants.{Guarded, Own, Fixed, Open}
+use Rattle.printout.specs.Text.{ascii, hex, hexes, decimal, lineOf}
+
+-- n raw bytes of the file from an offset on
+unfoldable pub raw : List ℕ → (at n : ℕ) → List ℕ
+raw s at n = hexes (take n (drop at s))
+
+-- `r`, `v`, `k` or `t` and a number
+unfoldable pub numbered : String → ℕ → List ℕ
+numbered letter n = ascii letter ++ decimal n
+
+-- a report byte's letter: "atomicity, `-` at closers"
+unfoldable pub letter : ℕ → List ℕ
+letter b = take 1 (drop b (ascii "-BLRAT"))
+
+-- `01 version 1`: a field of the head
+unfoldable pub headLine : List ℕ → (at : ℕ) → String → List ℕ
+headLine s at name = lineOf (raw s at 1 ∷ ascii name ∷ decimal (byteAt s at) ∷ [])
+
+-- "kind (`guarded kG`, `own tG`, `fixed`, `open`)"
+unfoldable pub kindWords : Kind → List (List ℕ)
+kindWords (Guarded g) = ascii "guarded" ∷ numbered "k" g ∷ []
+kindWords (Own g) = ascii "own" ∷ numbered "t" g ∷ []
+kindWords Fixed = ascii "fixed" ∷ []
+kindWords Open = ascii "open" ∷ []
+
+-- `00 00 00000005 v0 guarded k0 5`. "A variable: number, kind, initial value"
+unfoldable pub variableLine : List ℕ → (v : ℕ) → Variable → List ℕ
+variableLine s v x =
+    let at = 5 + 6 * v in
+    lineOf (raw s at 1 ∷ raw s (at + 1) 1 ∷ raw s (at + 2) 4 ∷ numbered "v" v ∷ kindWords (x .kind) ++ decimal (x .initial) ∷ [])
+
+unfoldable pub variableLines : List ℕ → (v : ℕ) → List Variable → List (List ℕ)
+variableLines s v [] = []
+variableLines s v (x ∷ xs) = variableLine s v x ∷ variableLines s (suc v) xs
+
+-- "name, its fields in byte order (r, v, k for register, variable, lock; numbers bare)"
+unfoldable pub instructionWords : Instruction → List (List ℕ)
+instructionWords (Set a n) = ascii "SET" ∷ numbered "r" a ∷ decimal n ∷ []
+instructionWords (Copy a b) = ascii "COPY" ∷ numbered "r" a ∷ numbered "r" b ∷ []
+instructionWords (Add a b c) = ascii "ADD" ∷ numbered "r" a ∷ numbered "r" b ∷ numbered "r" c ∷ []
+instructionWords (Sub a b c) = ascii "SUB" ∷ numbered "r" a ∷ numbered "r" b ∷ numbered "r" c ∷ []
+instructionWords (Less a b c) = ascii "LESS" ∷ numbered "r" a ∷ numbered "r" b ∷ numbered "r" c ∷ []
+instructionWords (Read a v) = ascii "READ" ∷ numbered "r" a ∷ numbered "v" v ∷ []
+instructionWords (Write a v) = ascii "WRITE" ∷ numbered "r" a ∷ numbered "v" v ∷ []
+instructionWords (Take k) = ascii "TAKE" ∷ numbered "k" k ∷ []
+instructionWords (Give k) = ascii "GIVE" ∷ numbered "k" k ∷ []
+instructionWords (If a n) = ascii "IF" ∷ numbered "r" a ∷ decimal n ∷ []
+instructionWords (Else n) = ascii "ELSE" ∷ decimal n ∷ []
+instructionWords (While a n) = ascii "WHILE" ∷ numbered "r" a ∷ decimal n ∷ []
+instructionWords (Again n) = ascii "AGAIN" ∷ decimal n ∷ []
+instructionWords (Atomic n) = ascii "ATOMIC" ∷ decimal n ∷ []
+instructionWords End = ascii "END" ∷ []
+
+-- `20 00 00 00 0 TAKE k0 R`: the instruction at a place, its bytes at an offset, with its report byte
+unfoldable pub instructionLine : List ℕ → (at place : ℕ) → Instruction → (byte : ℕ) → List ℕ
+instructionLine s at place i byte =
+    lineOf (raw s at 1 ∷ raw s (at + 1) 1 ∷ raw s (at + 2) 1 ∷ raw s (at + 3) 1 ∷ decimal place ∷ instructionWords i ++ letter byte ∷ [])
+
+-- the instructions from a place on, with their report
+unfoldable pub codeLines : List ℕ → (at place : ℕ) → List Instruction → (report : List ℕ) → List (List ℕ)
+codeLines s at place [] report = []
+codeLines s at place (i ∷ is) report =
+    instructionLine s at place i (getD report 0 0) ∷ codeLines s (at + 4) (suc place) is (drop 1 report)
+
+-- `000C thread 0 code 3`, then the code. A thread's report is its code's bytes and one for its whole
+unfoldable pub threadLines : List ℕ → (t : ℕ) → List CodeSection → (report : List ℕ) → List (List ℕ)
+threadLines s t [] report = []
+threadLines s t (c ∷ cs) report =
+    lineOf (raw s (c .start - 2) 2 ∷ ascii "thread" ∷ decimal t ∷ ascii "code" ∷ decimal (length (c .code)) ∷ [])
+    ∷ codeLines s (c .start) 0 (c .code) report
+    ++ threadLines s (suc t) cs (drop (length (c .code) + 1) report)
+
+-- `thread 0 A`. "After all code, one line for each thread's whole"
+unfoldable pub wholeLines : (t : ℕ) → List CodeSection → (report : List ℕ) → List (List ℕ)
+wholeLines t [] report = []
+wholeLines t (c ∷ cs) report =
+    lineOf (ascii "thread" ∷ decimal t ∷ letter (getD report (length (c .code)) 0) ∷ [])
+    ∷ wholeLines (suc t) cs (drop (length (c .code) + 1) report)
+
+-- all lines of an accepted file with its program and report
+unfoldable pub lines : List ℕ → Program → (report : List ℕ) → List (List ℕ)
+lines s p report =
+    headLine s 0 "version"
+    ∷ headLine s 1 "locks"
+    ∷ headLine s 2 "threads"
+    ∷ lineOf (raw s 3 2 ∷ ascii "variables" ∷ decimal (length (p .variables)) ∷ [])
+    ∷ variableLines s 0 (p .variables)
+    ++ threadLines s 0 (p .threads) report
+    ++ wholeLines 0 (p .threads) report
+
+-- "`refused N at D` and a newline"
+unfoldable pub refusalLine : Refusal → List ℕ
+refusalLine r = lineOf (ascii "refused" ∷ decimal (numberOf r) ∷ ascii "at" ∷ decimal (detailOf r) ∷ [])

@@ -1,0 +1,1 @@
+// The printout (document 01, "Line and bench").

@@ -1,0 +1,17 @@
+-- The file (document 01, "The file"), in its order; what a reader must believe.
+--     Refusal      numbers and details
+--     Choice       how definitions decide
+--     Field        fields, cursor, sections
+--     Variable     variable records
+--     Instruction  the table of op codes
+--     Nesting      entries and named places
+--     Layout       the whole file, front to back, and its contents
+--     Code         structured code
+pub mod Refusal
+pub mod Choice
+pub mod Field
+pub mod Variable
+pub mod Instruction
+pub mod Nesting
+pub mod Layout
+pub mod Code

@@ -1,0 +1,5 @@
+// Where a search for the first offence ends.
+pub enum Found {
+    Nowhere,
+    At(usize),
+}

@@ -1,0 +1,1 @@
+// No code: the crate is a theorem, of specs/Reduction.antt, proved in proofs/Reduction.antt.

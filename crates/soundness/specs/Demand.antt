@@ -1,0 +1,30 @@
+-- Demand 3 (document 01, "The step machine"): "one claim about a whole list, not one for each entry: it compares the whole end states
+-- of the given and the uninterrupted list, and their moved counts".
+use Prim.Native.Nat.{ℕ, _<_}
+use mathlib.Core.Path.{_≡_}
+use mathlib.Core.List.{List}
+use lib.ListN.{length, getD}
+use Rattle.judge.specs.Acceptance.{Accepted, accept}
+use Rattle.machine.specs.Block.{NobodyInside, Uninterrupted}
+use Rattle.machine.specs.Run.{run}
+use Rattle.program.specs.Choice.{fine}
+use Rattle.program.specs.Layout.{Program}
+
+-- a list of thread numbers of the program
+unfoldable pub ThreadsOf : Program → List ℕ → Type 0
+ThreadsOf p list = (i : ℕ) → i < length list → getD list i 0 < length (p .threads)
+
+-- an uninterrupted list that ends in the same variables, locks and thread states with the same number of moves
+pub record Serialized (p : Program) (list : List ℕ) : Type 0 where
+  pub serial : List ℕ
+  pub uninterrupted : Uninterrupted p serial
+  pub same-state : run p serial .state ≡ run p list .state
+  pub same-moved : run p serial .counts .moved ≡ run p list .counts .moved
+
+-- for every accepted file and every list of its thread numbers run from the start: if after the whole list no thread stands inside a
+-- block, there is such a list
+unfoldable pub Demand3 : List ℕ → Type 0
+Demand3 file =
+    (a : Accepted) → accept file ≡ fine a
+    → (list : List ℕ) → ThreadsOf (a .program) list → NobodyInside (a .program) (run (a .program) list .state)
+    → Serialized (a .program) list

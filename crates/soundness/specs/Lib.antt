@@ -1,0 +1,2 @@
+-- What a reader must believe of demand 3.
+pub mod Demand

@@ -1,0 +1,195 @@
+//! The step machine: one entry of the list is one step of a thread ("The step machine"; refusals
+//! 14 to 16).
+
+use crate::instruction::Instruction::{self, *};
+use crate::instruction::REGISTERS;
+use crate::reader::{Program, MAX_LOCKS, MAX_THREADS, MAX_VARIABLES};
+use crate::refusal::{check_buffer, Refusal};
+
+/// The longest list that `run` takes.
+pub const MAX_LIST: usize = 65_536;
+
+const VARIABLE_STATE: usize = 4;
+const LOCK_STATE: usize = 1;
+const THREAD_STATE: usize = 2 + 4 * REGISTERS;
+
+/// How many entries of a list were of each kind.
+#[derive(Clone, Copy, Debug, Default, PartialEq, Eq)]
+pub struct Counts {
+    pub moved: u64,
+    pub waiting: u64,
+    pub idle: u64,
+}
+
+/// Runs an accepted file from the start through the list, lays the end state over the front of
+/// `out` and answers the counts.
+pub fn run(file: &[u8], list: &[u8], out: &mut [u8]) -> Result<Counts, Refusal> {
+    let program = Program::read_accepted(file)?;
+    check_list(&program, list)?;
+    check_buffer(out, State::length(&program))?;
+    let mut state = State::start(&program);
+    let counts = state.run(&program, list);
+    state.write(&program, out);
+    Ok(counts)
+}
+
+/// The length of an accepted file's state.
+pub fn state_length(file: &[u8]) -> Result<usize, Refusal> {
+    let program = Program::read_accepted(file)?;
+    Ok(State::length(&program))
+}
+
+fn check_list(program: &Program, list: &[u8]) -> Result<(), Refusal> {
+    if list.len() > MAX_LIST {
+        return Err(Refusal::new(Refusal::LIST_TOO_LONG, MAX_LIST));
+    }
+    let threads = program.thread_count();
+    match list.iter().position(|&entry| usize::from(entry) >= threads) {
+        Some(index) => Err(Refusal::new(Refusal::THREAD_NUMBER, index)),
+        None => Ok(()),
+    }
+}
+
+/// What an entry did.
+#[derive(Clone, Copy, Debug, PartialEq, Eq)]
+pub enum Outcome {
+    Moved,
+    Waiting,
+    Idle,
+}
+
+/// A thread's place and registers.
+#[derive(Clone, Copy, Debug, Default, PartialEq, Eq, Hash)]
+pub struct Thread {
+    pub place: u16,
+    pub registers: [u32; REGISTERS],
+}
+
+impl Thread {
+    #[inline]
+    fn get(&self, register: u8) -> u32 {
+        self.registers[usize::from(register)]
+    }
+
+    #[inline]
+    fn set(&mut self, register: u8, value: u32) {
+        self.registers[usize::from(register)] = value;
+    }
+}
+
+/// A whole state; the elements past the program's counts stay 0.
+#[derive(Clone, Debug, PartialEq, Eq, Hash)]
+pub struct State {
+    pub variables: [u32; MAX_VARIABLES],
+    /// 0 for free, else the holder's thread number plus 1.
+    pub locks: [u8; MAX_LOCKS],
+    pub threads: [Thread; MAX_THREADS],
+}
+
+impl State {
+    /// Initial values, locks free, places and registers 0.
+    pub fn start(program: &Program) -> State {
+        let mut state = State {
+            variables: [0; MAX_VARIABLES],
+            locks: [0; MAX_LOCKS],
+            threads: [Thread::default(); MAX_THREADS],
+        };
+        for (value, variable) in state.variables.iter_mut().zip(program.variables()) {
+            *value = variable.initial;
+        }
+        state
+    }
+
+    /// Steps through a list of existing threads.
+    pub fn run(&mut self, program: &Program, list: &[u8]) -> Counts {
+        let mut counts = Counts::default();
+        for &entry in list {
+            match self.step(program, entry) {
+                Outcome::Moved => counts.moved += 1,
+                Outcome::Waiting => counts.waiting += 1,
+                Outcome::Idle => counts.idle += 1,
+            }
+        }
+        counts
+    }
+
+    /// One step of an existing thread of a sound program.
+    #[inline]
+    pub fn step(&mut self, program: &Program, number: u8) -> Outcome {
+        let thread = &mut self.threads[usize::from(number)];
+        let place = thread.place;
+        let code = program.code(usize::from(number));
+        let Some(&instruction) = code.get(usize::from(place)) else {
+            return Outcome::Idle;
+        };
+        let mut next = place + 1;
+        match instruction {
+            Set { to, number } => thread.set(to, u32::from(number)),
+            Copy { to, from } => thread.set(to, thread.get(from)),
+            Add { to, left, right } => {
+                thread.set(to, thread.get(left).wrapping_add(thread.get(right)))
+            }
+            Sub { to, left, right } => {
+                thread.set(to, thread.get(left).wrapping_sub(thread.get(right)))
+            }
+            Less { to, left, right } => {
+                thread.set(to, u32::from(thread.get(left) < thread.get(right)))
+            }
+            Read { to, variable } => thread.set(to, self.variables[usize::from(variable)]),
+            Write { from, variable } => self.variables[usize::from(variable)] = thread.get(from),
+            Take { lock } if self.locks[usize::from(lock)] != 0 => return Outcome::Waiting,
+            Take { lock } => self.locks[usize::from(lock)] = number + 1,
+            Give { lock } => self.locks[usize::from(lock)] = 0,
+            If { test, distance } | While { test, distance } if thread.get(test) == 0 => {
+                next += distance
+            }
+            Else { distance } => next = place + distance,
+            Again { distance } => next = place - distance,
+            If { .. } | While { .. } | Atomic { .. } | End => {}
+        }
+        thread.place = next;
+        Outcome::Moved
+    }
+
+    /// Whether a thread stands inside one of its blocks.
+    pub fn stands_inside(&self, program: &Program, thread: u8) -> bool {
+        let place = usize::from(self.threads[usize::from(thread)].place);
+        is_inside(program.code(usize::from(thread)), place)
+    }
+
+    /// The bytes a program's state takes.
+    pub fn length(program: &Program) -> usize {
+        program.variables().len() * VARIABLE_STATE
+            + program.lock_count() * LOCK_STATE
+            + program.thread_count() * THREAD_STATE
+    }
+
+    /// Lays the state over the front of a buffer that is long enough.
+    pub fn write(&self, program: &Program, out: &mut [u8]) {
+        let (variables, rest) = out.split_at_mut(program.variables().len() * VARIABLE_STATE);
+        let (locks, rest) = rest.split_at_mut(program.lock_count() * LOCK_STATE);
+        write_numbers(&self.variables, variables);
+        locks.copy_from_slice(&self.locks[..program.lock_count()]);
+        let threads = self.threads.iter().take(program.thread_count());
+        for (thread, bytes) in threads.zip(rest.chunks_exact_mut(THREAD_STATE)) {
+            let (place, registers) = bytes.split_at_mut(2);
+            place.copy_from_slice(&thread.place.to_be_bytes());
+            write_numbers(&thread.registers, registers);
+        }
+    }
+}
+
+/// Writes as many numbers as there is room for, big-endian.
+fn write_numbers(numbers: &[u32], out: &mut [u8]) {
+    for (number, bytes) in numbers.iter().zip(out.chunks_exact_mut(4)) {
+        bytes.copy_from_slice(&number.to_be_bytes());
+    }
+}
+
+/// Whether a place lies inside a block: past its ATOMIC, its END included.
+pub fn is_inside(code: &[Instruction], place: usize) -> bool {
+    code.iter().enumerate().any(|(w, &instruction)| {
+        matches!(instruction, Atomic { distance }
+            if w < place && place <= w + usize::from(distance))
+    })
+}

@@ -1,0 +1,381 @@
+//! Document 01's cases, starred and not; its mistakes that look reasonable; its example file; and
+//! what it means to stand inside a block.
+
+mod common;
+
+use common::{file, hex, judge_in, line_in, refused, run_in};
+use hogunlas_reference::atomicity::Atomicity;
+use hogunlas_reference::instruction::Instruction::{self, *};
+use hogunlas_reference::machine::{is_inside, Outcome, State};
+use hogunlas_reference::nesting::MAX_OPEN;
+use hogunlas_reference::reader::Program;
+use hogunlas_reference::{bench, generate, line_count, state_length, Counts, Refusal};
+
+const GUARDED_BY_K0: [u8; 6] = [0, 0, 0, 0, 0, 5];
+const OPEN: [u8; 6] = [3, 0, 0, 0, 0, 7];
+
+const TAKE: Instruction = Take { lock: 0 };
+const GIVE: Instruction = Give { lock: 0 };
+const READ: Instruction = Read { to: 2, variable: 0 };
+const WRITE: Instruction = Write {
+    from: 2,
+    variable: 0,
+};
+
+fn block(body: &[Instruction]) -> Vec<Instruction> {
+    let distance = body.len() as u16 + 1;
+    [&[Atomic { distance }], body, &[End]].concat()
+}
+
+fn repeat(body: &[Instruction]) -> Vec<Instruction> {
+    let distance = body.len() as u16 + 1;
+    [&[While { test: 0, distance }], body, &[Again { distance }]].concat()
+}
+
+fn choice(then_part: &[Instruction], else_part: &[Instruction]) -> Vec<Instruction> {
+    let to_else = then_part.len() as u16 + 1;
+    let to_end = else_part.len() as u16 + 1;
+    let opener = If {
+        test: 0,
+        distance: to_else,
+    };
+    let middle = Else { distance: to_end };
+    [&[opener], then_part, &[middle], else_part, &[End]].concat()
+}
+
+/// The report on one thread with one lock and one variable.
+fn report(variable: [u8; 6], code: &[Instruction]) -> Result<Vec<u8>, Refusal> {
+    judge_in(100, &file(1, &[variable], &[code]))
+}
+
+/// The offset of a place in such a file.
+fn offset(place: usize) -> u64 {
+    3 + 2 + 6 + 2 + 4 * place as u64
+}
+
+// The starred cases.
+
+#[test]
+fn right_then_left_is_atomic() {
+    assert_eq!(Atomicity::R.then(Atomicity::L), Atomicity::A);
+}
+
+#[test]
+fn left_then_right_is_none() {
+    assert_eq!(Atomicity::L.then(Atomicity::R), Atomicity::T);
+}
+
+#[test]
+fn left_joined_with_right_is_atomic() {
+    assert_eq!(Atomicity::L.join(Atomicity::R), Atomicity::A);
+}
+
+#[test]
+fn closure_of_atomic_is_none() {
+    assert_eq!(Atomicity::A.closure(), Atomicity::T);
+}
+
+#[test]
+fn add_wraps_to_zero() {
+    let own_full = [1, 0, 0xFF, 0xFF, 0xFF, 0xFF];
+    let sum = Add {
+        to: 3,
+        left: 2,
+        right: 1,
+    };
+    let file = file(0, &[own_full], &[&[READ, Set { to: 1, number: 1 }, sum]]);
+    let (counts, state) = run_in(50, &file, &[0, 0, 0], 38).unwrap();
+    assert_eq!(counts.moved, 3);
+    let registers = &state[6..];
+    assert_eq!(&registers[4..16], hex("00000001 FFFFFFFF 00000000"));
+}
+
+#[test]
+fn block_of_end_only_is_both_mover() {
+    assert_eq!(report(OPEN, &block(&[])), Ok(vec![1, 0, 1]));
+}
+
+#[test]
+fn block_of_a_critical_section_is_atomic() {
+    let code = block(&[TAKE, READ, WRITE, GIVE]);
+    assert_eq!(report(GUARDED_BY_K0, &code), Ok(vec![4, 3, 1, 1, 2, 0, 4]));
+}
+
+#[test]
+fn block_of_two_critical_sections_is_refused() {
+    let code = block(&[TAKE, READ, WRITE, GIVE, TAKE, READ, WRITE, GIVE]);
+    assert_eq!(report(GUARDED_BY_K0, &code), refused(13, offset(9)));
+}
+
+#[test]
+fn block_of_take_read_open_give_is_atomic() {
+    let code = block(&[TAKE, READ, GIVE]);
+    assert_eq!(report(OPEN, &code), Ok(vec![4, 3, 4, 2, 0, 4]));
+}
+
+#[test]
+fn block_of_read_open_take_give_is_refused() {
+    let code = block(&[READ, TAKE, GIVE]);
+    assert_eq!(report(OPEN, &code), refused(13, offset(4)));
+}
+
+#[test]
+fn two_threads_take_turns_at_a_lock() {
+    let file = file(1, &[], &[&[TAKE, GIVE], &[TAKE, GIVE]]);
+    let (counts, state) = run_in(80, &file, &[0, 1, 0, 1], 69).unwrap();
+    let expected = Counts {
+        moved: 3,
+        waiting: 1,
+        idle: 0,
+    };
+    assert_eq!(counts, expected);
+    assert_eq!(state[0], 2, "k0 is held by thread 1");
+    assert_eq!((state[1], state[2]), (0, 2), "place of thread 0");
+    assert_eq!((state[35], state[36]), (0, 1), "place of thread 1");
+}
+
+// The other cases.
+
+#[test]
+fn empty_file_is_refused_at_0() {
+    assert_eq!(judge_in(10, &[]), refused(1, 0));
+    assert_eq!(bench(&[]), b"refused 1 at 0\n");
+}
+
+#[test]
+fn empty_list_gives_the_start_state() {
+    let file = file(2, &[GUARDED_BY_K0, OPEN], &[&[TAKE, GIVE], &[]]);
+    let (counts, state) = run_in(90, &file, &[], 78).unwrap();
+    assert_eq!(counts, Counts::default());
+    let mut start = hex("00000005 00000007");
+    start.resize(78, 0);
+    assert_eq!(state, start);
+}
+
+#[test]
+fn sixteen_open_entries_pass() {
+    let mut code = Vec::new();
+    for _ in 0..MAX_OPEN {
+        code = block(&code);
+    }
+    assert_eq!(report(OPEN, &code).map(|report| report.len()), Ok(33));
+}
+
+#[test]
+fn the_seventeenth_open_entry_is_refused() {
+    let mut code = Vec::new();
+    for _ in 0..MAX_OPEN + 1 {
+        code = repeat(&code);
+    }
+    assert_eq!(report(OPEN, &code), refused(8, offset(16)));
+}
+
+#[test]
+fn sixteen_ifs_within_each_other_pass_their_elses() {
+    let mut code = Vec::new();
+    for _ in 0..MAX_OPEN {
+        code = choice(&[], &code);
+    }
+    assert_eq!(report(OPEN, &code).map(|report| report.len()), Ok(49));
+}
+
+#[test]
+fn read_before_take_in_the_example_is_refused() {
+    let file = hex("01 01 01 00 06 00 00 00 00 00 05 00 0C 10 02 00 00 20 00 00 00 21 00 00 00");
+    assert_eq!(judge_in(10, &file), refused(9, 13));
+}
+
+#[test]
+fn while_around_take_give_is_none_outside_a_block() {
+    let code = repeat(&[TAKE, GIVE]);
+    assert_eq!(report(OPEN, &code), Ok(vec![5, 3, 2, 0, 5]));
+}
+
+#[test]
+fn while_around_take_give_is_refused_within_a_block() {
+    let code = block(&repeat(&[TAKE, GIVE]));
+    assert_eq!(report(OPEN, &code), refused(13, offset(5)));
+}
+
+// Mistakes that look reasonable.
+
+#[test]
+fn two_atomic_parts_are_not_atomic() {
+    assert_eq!(report(OPEN, &[READ, READ]), Ok(vec![4, 4, 5]));
+    assert_eq!(report(OPEN, &block(&[READ, READ])), refused(13, offset(3)));
+}
+
+#[test]
+fn repeating_an_atomic_part_is_not_atomic() {
+    assert_eq!(report(OPEN, &repeat(&[READ])), Ok(vec![5, 4, 0, 5]));
+    let code = block(&repeat(&[READ]));
+    assert_eq!(report(OPEN, &code), refused(13, offset(4)));
+}
+
+/// No base file shows it, because the parts' sets would differ; so the algebra has to.
+#[test]
+fn joining_left_and_right_gives_atomic_and_not_none() {
+    assert_eq!(Atomicity::L.join(Atomicity::R), Atomicity::A);
+    assert_eq!(Atomicity::R.join(Atomicity::L), Atomicity::A);
+}
+
+#[test]
+fn a_thread_at_its_atomic_is_not_inside() {
+    assert!(!is_inside(&block(&[GIVE]), 0));
+}
+
+#[test]
+fn a_thread_at_the_end_of_its_block_is_still_inside() {
+    assert!(is_inside(&block(&[GIVE]), 2));
+}
+
+#[test]
+fn the_else_part_starts_with_the_set_at_the_if() {
+    let both_take = [choice(&[TAKE], &[TAKE]), vec![GIVE]].concat();
+    assert_eq!(
+        report(OPEN, &both_take),
+        Ok(vec![3, 3, 0, 3, 0, 2, 4]),
+        "the else part may take what the then part took"
+    );
+    let only_then_takes = [choice(&[TAKE, READ], &[READ]), vec![GIVE]].concat();
+    assert_eq!(
+        report(GUARDED_BY_K0, &only_then_takes),
+        refused(9, offset(4)),
+        "the else part holds nothing"
+    );
+    assert_eq!(
+        report(OPEN, &choice(&[TAKE], &[])),
+        refused(12, offset(3)),
+        "the sets are compared at END"
+    );
+}
+
+// Inside a block.
+
+#[test]
+fn past_its_end_a_thread_is_outside() {
+    let code = block(&[GIVE]);
+    let inside: Vec<bool> = (0..=3).map(|place| is_inside(&code, place)).collect();
+    assert_eq!(inside, [false, true, true, false]);
+}
+
+#[test]
+fn an_inner_block_is_inside_the_outer_one_throughout() {
+    let code = [vec![GIVE], block(&block(&[])), block(&[])].concat();
+    let inside: Vec<bool> = (0..=7).map(|place| is_inside(&code, place)).collect();
+    // GIVE, ATOMIC, ATOMIC, END, END, ATOMIC, END, code's end
+    let expected = [false, false, true, true, true, false, true, false];
+    assert_eq!(inside, expected);
+}
+
+#[test]
+fn code_without_a_block_is_outside() {
+    let code = repeat(&choice(&[TAKE], &[GIVE]));
+    assert!((0..=code.len()).all(|place| !is_inside(&code, place)));
+}
+
+#[test]
+fn stands_inside_follows_the_thread() {
+    let file = file(0, &[], &[&block(&[]), &[]]);
+    let program = Program::read(&file).unwrap();
+    let mut state = State::start(&program);
+    let mut seen = vec![state.stands_inside(&program, 0)];
+    while state.step(&program, 0) == Outcome::Moved {
+        seen.push(state.stands_inside(&program, 0));
+        assert!(!state.stands_inside(&program, 1));
+    }
+    assert_eq!(seen, [false, true, false]);
+}
+
+// The example file.
+
+const EXAMPLE: &str = "01 01 01 00 06 00 00 00 00 00 05 00 0C 20 00 00 00 10 02 00 00 21 00 00 00";
+
+const EXAMPLE_LINES: [&str; 10] = [
+    "01 version 1\n",
+    "01 locks 1\n",
+    "01 threads 1\n",
+    "0006 variables 1\n",
+    "00 00 00000005 v0 guarded k0 5\n",
+    "000C thread 0 code 3\n",
+    "20 00 00 00 0 TAKE k0 R\n",
+    "10 02 00 00 1 READ r2 v0 B\n",
+    "21 00 00 00 2 GIVE k0 L\n",
+    "thread 0 A\n",
+];
+
+#[test]
+fn the_example_prints_its_ten_lines() {
+    let file = hex(EXAMPLE);
+    assert_eq!(line_count(&file), Ok(10));
+    for (i, expected) in EXAMPLE_LINES.iter().enumerate() {
+        assert_eq!(line_in(48, &file, i as u64).unwrap(), expected.as_bytes());
+    }
+    assert_eq!(line_in(48, &file, 10), refused(17, 10));
+    assert_eq!(bench(&file), EXAMPLE_LINES.concat().into_bytes());
+}
+
+#[test]
+fn the_example_reads_its_variable() {
+    let file = hex(EXAMPLE);
+    assert_eq!(state_length(&file), Ok(39));
+    let (counts, state) = run_in(39, &file, &[0, 0, 0, 0], 39).unwrap();
+    let expected = Counts {
+        moved: 3,
+        waiting: 0,
+        idle: 1,
+    };
+    assert_eq!(counts, expected);
+    let mut end = hex("00000005 00 0003 00000000 00000000 00000005");
+    end.resize(39, 0);
+    assert_eq!(state, end);
+}
+
+// Every instruction's line, and the longest line.
+
+#[test]
+fn every_instruction_is_printed_with_its_fields() {
+    let code = [
+        "01 07 FF FF 0 SET r7 65535 B",
+        "02 01 02 00 1 COPY r1 r2 B",
+        "03 01 02 03 2 ADD r1 r2 r3 B",
+        "04 04 05 06 3 SUB r4 r5 r6 B",
+        "05 00 01 02 4 LESS r0 r1 r2 B",
+        "10 03 01 00 5 READ r3 v1 A",
+        "11 03 01 00 6 WRITE r3 v1 A",
+        "30 04 00 02 7 IF r4 2 B",
+        "01 00 00 00 8 SET r0 0 B",
+        "31 00 00 01 9 ELSE 1 -",
+        "35 00 00 00 10 END -",
+        "32 05 00 01 11 WHILE r5 1 B",
+        "33 00 00 01 12 AGAIN 1 -",
+        "34 00 00 01 13 ATOMIC 1 B",
+        "35 00 00 00 14 END -",
+    ];
+    let mut file = hex("01 00 01 00 0C 02 00 00 00 00 09 03 00 80 00 00 00 00 3C");
+    code.iter().for_each(|line| file.extend(hex(&line[..11])));
+    let head = "01 version 1\n00 locks 0\n01 threads 1\n000C variables 2\n\
+        02 00 00000009 v0 fixed 9\n03 00 80000000 v1 open 2147483648\n003C thread 0 code 15\n";
+    let printed = String::from_utf8(bench(&file)).unwrap();
+    assert_eq!(printed, format!("{head}{}\nthread 0 T\n", code.join("\n")));
+}
+
+#[test]
+fn the_longest_line_has_42_bytes() {
+    let mut variables = vec![[1, 0, 0, 0, 0, 0]; 63];
+    variables.push([0, 15, 0xFF, 0xFF, 0xFF, 0xFF]);
+    let line = line_in(48, &file(16, &variables, &[&[]]), 67).unwrap();
+    assert_eq!(line, b"00 0F FFFFFFFF v63 guarded k15 4294967295\n");
+    assert_eq!(line.len(), 42);
+}
+
+#[test]
+fn the_largest_file_has_33173_bytes_and_one_more_is_left_over() {
+    let mut file = generate::largest_file(&mut generate::Rng::new(1));
+    assert_eq!(file.len(), 33_173);
+    assert_eq!(judge_in(8200, &file).map(|report| report.len()), Ok(8200));
+    assert_eq!(judge_in(8199, &file), refused(16, 8200));
+    file.extend([0; 100]);
+    assert_eq!(judge_in(8200, &file), refused(5, 33_173));
+    assert_eq!(bench(&file), b"refused 5 at 33173\n");
+}

@@ -1,0 +1,87 @@
+//! Helpers shared by the tests.
+#![allow(dead_code)] // no test program uses all of them
+
+use hogunlas_reference::instruction::Instruction;
+use hogunlas_reference::{judge, line, run, Counts, Refusal};
+
+/// A buffer filled with a pattern that depends on the position, so that a shifted, kept or
+/// overwritten byte shows.
+pub fn pattern(length: usize) -> Vec<u8> {
+    (0..length)
+        .map(|at| (at * 37 + at / 256 + 11) as u8)
+        .collect()
+}
+
+/// Calls with a buffer of `length` bytes. Answers what the call said and the bytes it wrote;
+/// asserts that the bytes past these, and after a refusal all bytes, are kept.
+pub fn call<T>(
+    length: usize,
+    call: impl FnOnce(&mut [u8]) -> Result<T, Refusal>,
+    written: impl FnOnce(&T) -> usize,
+) -> Result<(T, Vec<u8>), Refusal> {
+    let mut buffer = pattern(length);
+    let answer = call(&mut buffer);
+    let kept_from = answer.as_ref().map_or(0, written);
+    assert_eq!(
+        &buffer[kept_from..],
+        &pattern(length)[kept_from..],
+        "bytes past the answer are kept"
+    );
+    buffer.truncate(kept_from);
+    answer.map(|value| (value, buffer))
+}
+
+pub fn judge_in(length: usize, file: &[u8]) -> Result<Vec<u8>, Refusal> {
+    call(length, |out| judge(file, out), |&used| used).map(|(_, report)| report)
+}
+
+pub fn line_in(length: usize, file: &[u8], i: u64) -> Result<Vec<u8>, Refusal> {
+    call(length, |out| line(file, i, out), |&used| used).map(|(_, text)| text)
+}
+
+/// `state` is the state's length, which `run` doesn't answer.
+pub fn run_in(
+    length: usize,
+    file: &[u8],
+    list: &[u8],
+    state: usize,
+) -> Result<(Counts, Vec<u8>), Refusal> {
+    call(length, |out| run(file, list, out), |_| state)
+}
+
+pub fn refused<T>(number: u32, detail: u64) -> Result<T, Refusal> {
+    Err(Refusal { number, detail })
+}
+
+/// A file from its parts.
+pub fn file(locks: u8, variables: &[[u8; 6]], code: &[&[Instruction]]) -> Vec<u8> {
+    let mut file = vec![1, locks, code.len() as u8];
+    push_section(&mut file, &variables.concat());
+    for thread in code {
+        let words: Vec<[u8; 4]> = thread.iter().map(|word| word.encode()).collect();
+        push_section(&mut file, &words.concat());
+    }
+    file
+}
+
+fn push_section(file: &mut Vec<u8>, bytes: &[u8]) {
+    file.extend_from_slice(&(bytes.len() as u16).to_be_bytes());
+    file.extend_from_slice(bytes);
+}
+
+/// Bytes from hexadecimal; `-` stands for none, blanks may separate bytes.
+pub fn hex(text: &str) -> Vec<u8> {
+    if text == "-" {
+        return Vec::new();
+    }
+    let digits: Vec<u8> = text
+        .bytes()
+        .filter(|&byte| byte != b' ')
+        .map(|byte| (byte as char).to_digit(16).expect("a hexadecimal digit") as u8)
+        .collect();
+    assert_eq!(digits.len() % 2, 0);
+    digits
+        .chunks(2)
+        .map(|pair| pair[0] << 4 | pair[1])
+        .collect()
+}

@@ -1,0 +1,231 @@
+//! The order of refusals, as document 01's silent spots are read.
+
+mod common;
+
+use common::{file, hex, judge_in, line_in, refused, run_in};
+use hogunlas_reference::instruction::Instruction::{self, *};
+use hogunlas_reference::Refusal;
+
+fn judged(text: &str) -> Result<Vec<u8>, Refusal> {
+    judge_in(100, &hex(text))
+}
+
+#[test]
+fn header_fields_are_tested_one_by_one() {
+    assert_eq!(judged("00"), refused(2, 0));
+    assert_eq!(judged("01"), refused(1, 1));
+    assert_eq!(judged("01 11"), refused(3, 1), "17 locks, no third byte");
+    assert_eq!(judged("01 10"), refused(1, 2));
+    assert_eq!(judged("01 10 00"), refused(3, 2));
+    assert_eq!(judged("01 10 09"), refused(3, 2));
+}
+
+#[test]
+fn a_length_is_tested_before_its_sections_bytes() {
+    assert_eq!(judged("01 00 01 00"), refused(1, 4), "half a length field");
+    assert_eq!(judged("01 00 01 00 05"), refused(4, 3));
+    assert_eq!(judged("01 00 01 01 86"), refused(4, 3), "390 bytes");
+    assert_eq!(
+        judged("01 00 01 01 80"),
+        refused(1, 5),
+        "384 bytes, none there"
+    );
+    assert_eq!(judged("01 00 01 00 00 10 04"), refused(4, 5), "4,100 bytes");
+    assert_eq!(judged("01 00 01 00 00 10 00"), refused(1, 7), "4,096 bytes");
+    assert_eq!(
+        judged("01 00 01 00 06 09 09 00 00 00"),
+        refused(1, 10),
+        "a section's bytes are counted before its first record"
+    );
+}
+
+#[test]
+fn records_are_tested_with_kind_and_g() {
+    for (record, good) in [
+        ("00 00", true),
+        ("00 01", false),
+        ("01 01", true),
+        ("01 02", false),
+        ("02 00", true),
+        ("02 01", false),
+        ("03 00", true),
+        ("03 01", false),
+        ("04 00", false),
+    ] {
+        let text = format!("01 01 02 00 06 {record} 00 00 00 00 00 00 00 00");
+        let expected = if good { Ok(vec![1, 1]) } else { refused(6, 5) };
+        assert_eq!(judged(&text), expected, "{record}");
+    }
+}
+
+#[test]
+fn wrong_fields_are_refused_at_their_instruction() {
+    for word in [
+        "00 00 00 00",
+        "06 00 00 00",
+        "01 08 00 00",
+        "02 00 08 00",
+        "02 00 00 01",
+        "03 00 00 08",
+        "10 00 01 00",
+        "10 00 00 01",
+        "11 08 00 00",
+        "20 01 00 00",
+        "20 00 01 00",
+        "21 00 00 01",
+        "30 08 00 01",
+        "31 01 00 01",
+        "33 01 00 01",
+        "34 01 00 01",
+        "35 00 00 01",
+        "36 00 00 00",
+    ] {
+        let text = format!("01 01 01 00 06 03 00 00 00 00 00 00 08 02 00 00 00 {word}");
+        assert_eq!(judged(&text), refused(7, 17), "{word}");
+    }
+}
+
+#[test]
+fn a_wrong_instruction_comes_before_broken_nesting_of_its_thread_only() {
+    let same_thread = "01 00 01 00 00 00 08 35 00 00 00 FF 00 00 00";
+    assert_eq!(judged(same_thread), refused(7, 11));
+    let next_thread = "01 00 02 00 00 00 04 35 00 00 00 00 03";
+    assert_eq!(
+        judged(next_thread),
+        refused(8, 7),
+        "an 8 before the next thread's 4"
+    );
+    let left_over = "01 00 01 00 00 00 04 35 00 00 00 00";
+    assert_eq!(judged(left_over), refused(8, 7), "an 8 before the 5");
+}
+
+fn if_to(distance: u16) -> Instruction {
+    If { test: 0, distance }
+}
+
+fn while_to(distance: u16) -> Instruction {
+    While { test: 0, distance }
+}
+
+fn else_to(distance: u16) -> Instruction {
+    Else { distance }
+}
+
+fn again(distance: u16) -> Instruction {
+    Again { distance }
+}
+
+fn atomic_to(distance: u16) -> Instruction {
+    Atomic { distance }
+}
+
+#[test]
+fn nesting_is_broken_at_the_first_place_that_does_not_fit() {
+    let plain = Set { to: 0, number: 0 };
+    let cases: [(&[Instruction], u64, &str); 13] = [
+        (&[atomic_to(0), End], 0, "distance 0"),
+        (&[End], 0, "no open entry"),
+        (&[if_to(1), End], 1, "an IF's END without ELSE"),
+        (&[atomic_to(1), else_to(1), End], 1, "wrong kind"),
+        (&[atomic_to(2), End, End], 1, "elsewhere than named"),
+        (&[atomic_to(1), plain], 1, "a plain one there"),
+        (&[atomic_to(1), atomic_to(1), End], 1, "an opener there"),
+        (&[while_to(1), again(2)], 1, "AGAIN's n differs"),
+        (&[while_to(1), again(0)], 1, "AGAIN's n is 0"),
+        (&[if_to(1), else_to(0), End], 1, "ELSE's n is 0"),
+        (&[atomic_to(9)], 1, "open at the code's end"),
+        // Names that cross: the block's END never comes, or the first closer doesn't fit.
+        (&[atomic_to(2), if_to(1), else_to(1), End], 4, "crossing"),
+        (&[atomic_to(2), if_to(2), End, End], 2, "crossing"),
+    ];
+    for (code, place, why) in cases {
+        let file = file(0, &[], &[code]);
+        assert_eq!(judge_in(20, &file), refused(8, 7 + 4 * place), "{why}");
+    }
+}
+
+#[test]
+fn the_file_comes_before_the_writer_and_threads_in_order() {
+    let take = Take { lock: 0 };
+    let held_at_end = file(1, &[], &[&[take], &[take, take]]);
+    assert_eq!(
+        judge_in(20, &held_at_end),
+        refused(12, 11),
+        "at the section's end"
+    );
+    let taken_twice = file(1, &[], &[&[], &[take, take]]);
+    assert_eq!(judge_in(20, &taken_twice), refused(10, 13));
+    let given_back = file(1, &[], &[&[take, Give { lock: 0 }, Give { lock: 0 }]]);
+    assert_eq!(judge_in(20, &given_back), refused(11, 15));
+    let left_over = [taken_twice, vec![0]].concat();
+    assert_eq!(judge_in(20, &left_over), refused(5, 17));
+}
+
+#[test]
+fn a_loops_sets_are_compared_at_again() {
+    let code = [
+        While {
+            test: 0,
+            distance: 2,
+        },
+        Take { lock: 0 },
+        Again { distance: 2 },
+    ];
+    assert_eq!(judge_in(20, &file(1, &[], &[&code])), refused(12, 15));
+}
+
+#[test]
+fn the_discipline_of_each_kind() {
+    let (read, write) = (
+        Read { to: 0, variable: 0 },
+        Write {
+            from: 0,
+            variable: 0,
+        },
+    );
+    let own_to_1 = [1, 1, 0, 0, 0, 0];
+    let fixed = [2, 0, 0, 0, 0, 0];
+    let judged = |variable, code: &[&[_]]| judge_in(20, &file(1, &[variable], code));
+    assert_eq!(
+        judged(own_to_1, &[&[], &[read, write]]),
+        Ok(vec![1, 1, 1, 1])
+    );
+    assert_eq!(judged(own_to_1, &[&[read], &[]]), refused(9, 13));
+    assert_eq!(judged(fixed, &[&[read], &[read]]), Ok(vec![1, 1, 1, 1]));
+    assert_eq!(judged(fixed, &[&[write]]), refused(9, 13));
+}
+
+#[test]
+fn run_tests_the_lists_length_then_its_numbers_then_the_buffer() {
+    let file = file(0, &[], &[&[], &[]]);
+    let mut list = vec![0; 65_537];
+    list[3] = 2;
+    assert_eq!(run_in(0, &file, &list, 0), refused(14, 65_536));
+    list.truncate(65_536);
+    list[9] = 255;
+    assert_eq!(run_in(0, &file, &list, 0), refused(15, 3));
+    assert_eq!(run_in(67, &file, &[1, 0], 0), refused(16, 68));
+    assert!(run_in(68, &file, &[1, 0], 68).is_ok());
+}
+
+#[test]
+fn line_tests_its_number_then_the_buffer() {
+    let file = file(0, &[], &[&[]]);
+    assert_eq!(line_in(47, &file, 6), refused(17, 6));
+    assert_eq!(line_in(47, &file, u64::MAX), refused(17, 6));
+    assert_eq!(
+        line_in(47, &file, 5),
+        refused(16, 48),
+        "48 whatever the line"
+    );
+    assert_eq!(line_in(48, &file, 5), Ok(b"thread 0 B\n".to_vec()));
+}
+
+#[test]
+fn the_callers_refusals_come_last() {
+    assert_eq!(run_in(0, &hex("01 00 09"), &[9], 0), refused(3, 2));
+    let given = file(1, &[], &[&[Give { lock: 0 }]]);
+    assert_eq!(run_in(0, &given, &[9], 0), refused(11, 7));
+    assert_eq!(line_in(0, &given, 99), refused(11, 7));
+    assert_eq!(judge_in(0, &given), refused(11, 7));
+}

@@ -1,0 +1,290 @@
+//! Demand 3, tried out: for an accepted program and a list after which no thread stands inside a
+//! block, there is an uninterrupted list with the same end state and the same number of moves.
+//!
+//! The uninterrupted list is searched for, with nothing used of how the judge works: each thread
+//! keeps its own moves, cut into units (an outermost block, or one move outside blocks), and the
+//! units are put into some order that ends in the same state. What is found is then checked
+//! against document 01's wording.
+
+mod common;
+
+use std::collections::HashSet;
+
+use hogunlas_reference::generate::{self, Rng};
+use hogunlas_reference::instruction::Instruction::*;
+use hogunlas_reference::machine::{Outcome, State, Thread};
+use hogunlas_reference::reader::Program;
+use hogunlas_reference::{judge, Refusal};
+
+const PROGRAMS: u64 = 50_000;
+
+/// The end state of a list that is uninterrupted, or nothing if it is not.
+fn run_uninterrupted(program: &Program, list: &[u8]) -> Option<State> {
+    let mut state = State::start(program);
+    for &entry in list {
+        if someone_else_inside(program, &state, entry) {
+            return None;
+        }
+        if state.step(program, entry) != Outcome::Moved {
+            return None;
+        }
+    }
+    Some(state)
+}
+
+fn someone_else_inside(program: &Program, state: &State, thread: u8) -> bool {
+    let threads = 0..program.thread_count() as u8;
+    let mut others = threads.filter(|&other| other != thread);
+    others.any(|other| state.stands_inside(program, other))
+}
+
+fn nobody_inside(program: &Program, state: &State) -> bool {
+    let mut threads = 0..program.thread_count() as u8;
+    threads.all(|thread| !state.stands_inside(program, thread))
+}
+
+/// Moves of one thread that belong together, and the thread after them.
+struct Unit {
+    moves: usize,
+    after: Thread,
+    /// The index of the last of them among all moves, a hint for the search.
+    last: usize,
+}
+
+/// A list's moves, its end state, and each thread's units.
+struct Trial {
+    moves: Vec<u8>,
+    end: State,
+    units: Vec<Vec<Unit>>,
+}
+
+/// A random list as a trial: some entries of any threads, then entries of threads that stand
+/// inside a block, cut after the last entry that leaves nobody inside one.
+fn trial(program: &Program, rng: &mut Rng) -> Trial {
+    let length = rng.between(10, 80);
+    let mut list = generate::good_list(rng, program.thread_count(), length);
+    let mut state = State::start(program);
+    let mut usable = 0;
+    for index in 0..length + 60 {
+        if index >= length {
+            let threads = 0..program.thread_count() as u8;
+            let inside = threads.filter(|&thread| state.stands_inside(program, thread));
+            match rng.pick(&inside.collect::<Vec<u8>>()) {
+                Some(thread) => list.push(thread),
+                None => break,
+            }
+        }
+        state.step(program, list[index]);
+        if nobody_inside(program, &state) {
+            usable = index + 1;
+        }
+    }
+    cut_into_units(program, &list[..usable])
+}
+
+fn cut_into_units(program: &Program, list: &[u8]) -> Trial {
+    let threads = program.thread_count();
+    let mut state = State::start(program);
+    let mut moves = Vec::new();
+    let mut units: Vec<Vec<Unit>> = (0..threads).map(|_| Vec::new()).collect();
+    let mut begun = vec![0; threads];
+    for &entry in list {
+        if state.step(program, entry) != Outcome::Moved {
+            continue;
+        }
+        let thread = usize::from(entry);
+        begun[thread] += 1;
+        if !state.stands_inside(program, entry) {
+            units[thread].push(Unit {
+                moves: begun[thread],
+                after: state.threads[thread],
+                last: moves.len(),
+            });
+            begun[thread] = 0;
+        }
+        moves.push(entry);
+    }
+    let end = state;
+    Trial { moves, end, units }
+}
+
+/// A search for an order of the units, depth first, dead ends remembered.
+struct Search<'t> {
+    program: &'t Program,
+    trial: &'t Trial,
+    dead: HashSet<(State, Vec<usize>)>,
+    list: Vec<u8>,
+}
+
+impl Search<'_> {
+    /// An uninterrupted list made of the trial's units that ends as the trial does.
+    fn find(program: &Program, trial: &Trial) -> Option<Vec<u8>> {
+        let mut search = Search {
+            program,
+            trial,
+            dead: HashSet::new(),
+            list: Vec::new(),
+        };
+        let mut next = vec![0; program.thread_count()];
+        let found = search.extend(&State::start(program), &mut next);
+        found.then_some(search.list)
+    }
+
+    /// Extends the list from this state, with `next` telling each thread's next unit.
+    fn extend(&mut self, state: &State, next: &mut Vec<usize>) -> bool {
+        if self.list.len() == self.trial.moves.len() {
+            return *state == self.trial.end;
+        }
+        if self.dead.contains(&(state.clone(), next.clone())) {
+            return false;
+        }
+        for thread in self.candidates(next) {
+            let Some(after) = self.after_unit(state, thread, next[thread]) else {
+                continue;
+            };
+            let length = self.list.len();
+            let moves = self.trial.units[thread][next[thread]].moves;
+            self.list.resize(length + moves, thread as u8);
+            next[thread] += 1;
+            if self.extend(&after, next) {
+                return true;
+            }
+            next[thread] -= 1;
+            self.list.truncate(length);
+        }
+        self.dead.insert((state.clone(), next.clone()));
+        false
+    }
+
+    /// Threads that have a unit left, the one that ended first in the trial first.
+    fn candidates(&self, next: &[usize]) -> Vec<usize> {
+        let units = &self.trial.units;
+        let mut threads: Vec<usize> = (0..units.len())
+            .filter(|&thread| next[thread] < units[thread].len())
+            .collect();
+        threads.sort_by_key(|&thread| units[thread][next[thread]].last);
+        threads
+    }
+
+    /// The state after a whole unit, if all of it moves and leaves its thread as in the trial.
+    fn after_unit(&self, state: &State, thread: usize, index: usize) -> Option<State> {
+        let unit = &self.trial.units[thread][index];
+        let mut state = state.clone();
+        for _ in 0..unit.moves {
+            if state.step(self.program, thread as u8) != Outcome::Moved {
+                return None;
+            }
+        }
+        (state.threads[thread] == unit.after).then_some(state)
+    }
+}
+
+/// How many lists were tried, and how many of them interrupted a block.
+#[derive(Default)]
+struct Tried {
+    lists: u64,
+    interrupted: u64,
+    moves: usize,
+}
+
+impl Tried {
+    /// Tries one list of an accepted file.
+    fn add(&mut self, file: &[u8], rng: &mut Rng, seed: u64) {
+        let program = Program::read(file).unwrap();
+        let trial = trial(&program, rng);
+        let found = Search::find(&program, &trial);
+        let list = found.unwrap_or_else(|| panic!("no uninterrupted list, seed {seed}"));
+        let end = run_uninterrupted(&program, &list);
+        assert_eq!(end.as_ref(), Some(&trial.end), "seed {seed}");
+        assert_eq!(list.len(), trial.moves.len(), "seed {seed}");
+        self.lists += 1;
+        self.moves += trial.moves.len();
+        self.interrupted += u64::from(run_uninterrupted(&program, &trial.moves).is_none());
+    }
+}
+
+#[test]
+fn every_list_has_an_uninterrupted_one_with_the_same_end() {
+    let mut tried = Tried::default();
+    for seed in 0..PROGRAMS {
+        let rng = &mut Rng::new(seed);
+        let file = generate::small_accepted_file(rng);
+        judge(&file, &mut [0; 8200]).unwrap();
+        tried.add(&file, rng, seed);
+    }
+    assert!(tried.interrupted > PROGRAMS / 2, "{}", tried.interrupted);
+    assert!(tried.moves as u64 > 10 * PROGRAMS, "{}", tried.moves);
+}
+
+/// The same for programs that keep the lock discipline and have blocks of any atomicity, as far as
+/// the judge accepts them: here it is the judge that is tried, and not the generator's care.
+#[test]
+fn whatever_the_judge_accepts_has_uninterrupted_lists() {
+    let mut tried = Tried::default();
+    for seed in 0..4 * PROGRAMS {
+        let rng = &mut Rng::new(seed);
+        let file = generate::small_disciplined_file(rng);
+        if judge(&file, &mut [0; 8200]).is_ok() {
+            tried.add(&file, rng, seed);
+        }
+    }
+    assert!(tried.lists > PROGRAMS / 2, "{}", tried.lists);
+    assert!(tried.interrupted > tried.lists / 3, "{}", tried.interrupted);
+}
+
+/// The search can fail: of the programs that the judge refuses by 13, some have lists that no order
+/// of the units explains.
+#[test]
+fn without_the_judge_some_lists_have_no_uninterrupted_one() {
+    let (mut refused, mut unexplained) = (0, 0);
+    for seed in 0..PROGRAMS {
+        let rng = &mut Rng::new(seed);
+        let file = generate::small_disciplined_file(rng);
+        if let Err(refusal) = judge(&file, &mut [0; 8200]) {
+            assert_eq!(refusal.number, Refusal::BLOCK_IS_T, "seed {seed}");
+            let program = Program::read(&file).unwrap();
+            let trial = trial(&program, rng);
+            refused += 1;
+            unexplained += u64::from(Search::find(&program, &trial).is_none());
+        }
+    }
+    assert!(
+        refused > 500 && unexplained > 20,
+        "{unexplained} of {refused}"
+    );
+}
+
+/// Two threads each add 1 to an open variable in a block: the judge refuses it (13), and rightly,
+/// since one addition can be lost.
+#[test]
+fn a_lost_update_is_refused_and_real() {
+    let block = [
+        Atomic { distance: 5 },
+        Read { to: 0, variable: 0 },
+        Set { to: 1, number: 1 },
+        Add {
+            to: 0,
+            left: 0,
+            right: 1,
+        },
+        Write {
+            from: 0,
+            variable: 0,
+        },
+        End,
+    ];
+    let file = common::file(0, &[[3, 0, 0, 0, 0, 0]], &[&block, &block]);
+    let (number, detail) = (13, 33);
+    assert_eq!(judge(&file, &mut [0; 99]), Err(Refusal { number, detail }));
+    let program = Program::read(&file).unwrap();
+    let trial = cut_into_units(&program, &[0, 1, 0, 1, 0, 1, 0, 1, 0, 1, 0, 1]);
+    assert_eq!(trial.end.variables[0], 1, "one addition is lost");
+    assert_eq!(Search::find(&program, &trial), None);
+    for list in [
+        [0, 0, 0, 0, 0, 0, 1, 1, 1, 1, 1, 1],
+        [1, 1, 1, 1, 1, 1, 0, 0, 0, 0, 0, 0],
+    ] {
+        let end = run_uninterrupted(&program, &list).unwrap();
+        assert_eq!(end.variables[0], 2);
+    }
+}
