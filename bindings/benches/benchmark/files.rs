@@ -43,27 +43,38 @@ pub fn one_thread(instructions: usize) -> Vec<u8> {
     file(&[guarded_reads(instructions)])
 }
 
-/// Eight threads that never end. In each round a thread takes k0, adds to v0 in a block, gives k0,
-/// and then calculates for a while, so that most steps move and some wait.
+/// Eight threads that never end. In each round a thread adds to v0 in a block and then calculates
+/// for a while, so that most steps move and some wait.
 #[cfg(feature = "run")]
 pub fn busy_threads() -> Vec<u8> {
-    let block = [
+    let body = [&add_to_v0()[..], &calculate().repeat(12)].concat();
+    let distance = body.len() as u16 + 1;
+    let start = [Set { to: 1, number: 1 }, While { test: 1, distance }];
+    let thread = [&start[..], &body, &[Again { distance }]].concat();
+    file(&vec![thread; 8])
+}
+
+#[cfg(feature = "run")]
+fn add_to_v0() -> [Instruction; 7] {
+    let (to, left, right) = (2, 2, 1);
+    [
         Atomic { distance: 6 },
         Take { lock: 0 },
-        Read { to: 2, variable: 0 },
-        Add {
-            to: 2,
-            left: 2,
-            right: 1,
-        },
+        Read { to, variable: 0 },
+        Add { to, left, right },
         Write {
             from: 2,
             variable: 0,
         },
         Give { lock: 0 },
         End,
-    ];
-    let choice = [
+    ]
+}
+
+#[cfg(feature = "run")]
+fn calculate() -> [Instruction; 6] {
+    let (to, left, right) = (3, 3, 1);
+    [
         Less {
             to: 4,
             left: 3,
@@ -73,18 +84,9 @@ pub fn busy_threads() -> Vec<u8> {
             test: 4,
             distance: 2,
         },
-        Copy { to: 3, from: 2 },
+        Copy { to, from: 2 },
         Else { distance: 2 },
-        Sub {
-            to: 3,
-            left: 3,
-            right: 1,
-        },
+        Sub { to, left, right },
         End,
-    ];
-    let body = [&block[..], &choice.repeat(12)].concat();
-    let distance = body.len() as u16 + 1;
-    let start = [Set { to: 1, number: 1 }, While { test: 1, distance }];
-    let thread = [&start[..], &body, &[Again { distance }]].concat();
-    file(&vec![thread; 8])
+    ]
 }
