@@ -1,0 +1,156 @@
+//! Safe Rust calls of the verified library Hogunlas: judge a station program, run it step by
+//! step, print it line by line (document 01).
+//!
+//! Every call takes the file as bytes and lays its answer over the front of a buffer that the
+//! caller lends; the bytes past the answer are kept, and after a refusal all bytes are. Any bytes
+//! whatever may be passed: a call answers or refuses, and nothing else.
+//!
+//! The work is done by `libhogunlas.a`, which `rt staticlib hogunlas` makes of proved code. What
+//! is trusted here beside it is the module `ffi`: that the declarations are those of the archive.
+//!
+//! | call | cargo feature |
+//! |---|---|
+//! | [`judge`] | none: it is always there |
+//! | `run` | `run` |
+//! | `line` | `line` |
+#![deny(unsafe_code)]
+
+mod ffi;
+
+use std::error::Error;
+use std::fmt;
+
+/// The length of the largest file that is not refused.
+pub const MAX_FILE: usize = 33_173;
+
+/// The length of the longest report: a buffer of this length is enough for every file.
+pub const MAX_REPORT: usize = 8_200;
+
+/// The length of the longest list that `run` takes.
+pub const MAX_LIST: usize = 65_536;
+
+/// The length of the longest end state: a buffer of this length is enough for every file.
+pub const MAX_STATE: usize = 544;
+
+/// The buffer that `line` needs, whatever the line's own length.
+pub const LINE_BUFFER: usize = 48;
+
+/// Why a call gave no answer ("Who can bring a number about"). What the detail means depends on
+/// the number: for most, it is the offset in the file at which the offence lies.
+#[derive(Clone, Copy, Debug, PartialEq, Eq, Hash)]
+pub struct Refusal {
+    /// 1 to 8: the sender of the file; 9 to 13: the program's writer; 14 to 17: the caller.
+    pub number: u32,
+    pub detail: u64,
+}
+
+impl Refusal {
+    /// The refusal that a call's numbers state, unless its number is 0, which stands for none.
+    /// What a call does not state is 0, as the header says; builds for tests look.
+    fn none_or(number: u32, detail: u64, answer: &[u64]) -> Result<(), Refusal> {
+        if number == 0 {
+            debug_assert_eq!(detail, 0, "an answer has no detail");
+            return Ok(());
+        }
+        debug_assert!(answer.iter().all(|&part| part == 0), "a refusal answers");
+        Err(Refusal { number, detail })
+    }
+}
+
+/// As the program `bench` prints it.
+impl fmt::Display for Refusal {
+    fn fmt(&self, formatter: &mut fmt::Formatter<'_>) -> fmt::Result {
+        write!(formatter, "refused {} at {}", self.number, self.detail)
+    }
+}
+
+impl Error for Refusal {}
+
+/// Judges a file, lays its report over the front of `report` and answers the report's length.
+///
+/// The report has, for each thread, a byte for each instruction (0 at ELSE, AGAIN and END) and
+/// then one for the thread's whole code: B 1, L 2, R 3, A 4, T 5.
+///
+/// Refusals 1 to 13 are the file's; 16 is a buffer shorter than the report, with the bytes needed
+/// as its detail.
+///
+/// ```
+/// // TAKE k0, READ r2 v0, GIVE k0
+/// let file = [
+///     1, 1, 1, 0, 6, 0, 0, 0, 0, 0, 5, 0, 12, 0x20, 0, 0, 0, 0x10, 2, 0, 0, 0x21, 0, 0, 0,
+/// ];
+/// let mut report = [0; hogunlas::MAX_REPORT];
+/// let length = hogunlas::judge(&file, &mut report)?;
+/// assert_eq!(report[..length], [3, 1, 2, 4]);
+///
+/// let cut = hogunlas::judge(&file[..20], &mut report).unwrap_err();
+/// assert_eq!(cut.to_string(), "refused 1 at 20");
+/// # Ok::<(), hogunlas::Refusal>(())
+/// ```
+pub fn judge(file: &[u8], report: &mut [u8]) -> Result<usize, Refusal> {
+    let judged = ffi::judge(file, report);
+    Refusal::none_or(judged.refusal, judged.detail, &[judged.length])?;
+    Ok(judged.length as usize)
+}
+
+/// How many entries of a list were of each kind; their sum is the list's length.
+#[cfg(feature = "run")]
+#[derive(Clone, Copy, Debug, Default, PartialEq, Eq, Hash)]
+pub struct Counts {
+    pub moved: u64,
+    pub waiting: u64,
+    pub idle: u64,
+}
+
+/// Runs an accepted file from the start through a list of thread numbers, lays the end state over
+/// the front of `state` and answers the counts.
+///
+/// The end state has 4 bytes for each variable, 1 for each lock (0 free, or the holder's number
+/// plus 1) and 34 for each thread (its place, then its eight registers), numbers big-endian.
+///
+/// Refusals 1 to 13 are the file's; 14 is a list of more than [`MAX_LIST`] entries, 15 an entry
+/// that names no thread (its index), 16 a buffer shorter than the state (the bytes needed).
+///
+/// ```
+/// let file = [
+///     1, 1, 1, 0, 6, 0, 0, 0, 0, 0, 5, 0, 12, 0x20, 0, 0, 0, 0x10, 2, 0, 0, 0x21, 0, 0, 0,
+/// ];
+/// let mut state = [0; hogunlas::MAX_STATE];
+/// let counts = hogunlas::run(&file, &[0, 0, 0, 0], &mut state)?;
+/// assert_eq!((counts.moved, counts.waiting, counts.idle), (3, 0, 1));
+/// assert_eq!(state[..7], [0, 0, 0, 5, 0, 0, 3]); // v0, k0, the thread's place
+/// # Ok::<(), hogunlas::Refusal>(())
+/// ```
+#[cfg(feature = "run")]
+pub fn run(file: &[u8], list: &[u8], state: &mut [u8]) -> Result<Counts, Refusal> {
+    let ran = ffi::run(file, list, state);
+    let counts = [ran.moved, ran.waiting, ran.idle];
+    Refusal::none_or(ran.refusal, ran.detail, &counts)?;
+    Ok(Counts {
+        moved: ran.moved,
+        waiting: ran.waiting,
+        idle: ran.idle,
+    })
+}
+
+/// Lays line `i` of an accepted file's printout, its newline included, over the front of `text`
+/// and answers the line's length.
+///
+/// Refusals 1 to 13 are the file's; 17 is an `i` that is not below the line count (that count), 16
+/// a buffer shorter than [`LINE_BUFFER`].
+///
+/// ```
+/// let file = [
+///     1, 1, 1, 0, 6, 0, 0, 0, 0, 0, 5, 0, 12, 0x20, 0, 0, 0, 0x10, 2, 0, 0, 0x21, 0, 0, 0,
+/// ];
+/// let mut text = [0; hogunlas::LINE_BUFFER];
+/// let length = hogunlas::line(&file, 7, &mut text)?;
+/// assert_eq!(&text[..length], b"10 02 00 00 1 READ r2 v0 B\n");
+/// # Ok::<(), hogunlas::Refusal>(())
+/// ```
+#[cfg(feature = "line")]
+pub fn line(file: &[u8], i: u64, text: &mut [u8]) -> Result<usize, Refusal> {
+    let printed = ffi::line(file, i, text);
+    Refusal::none_or(printed.refusal, printed.detail, &[printed.length])?;
+    Ok(printed.length as usize)
+}

@@ -1,0 +1,62 @@
+//! That the crate and the header say of the archive what it is.
+
+use hogunlas_reference::{judge, machine, printout, reader};
+
+/// The names that the archive defines. Its first member is the index that linkers look them up in:
+/// behind the magic and a header of 60 bytes a count, as many offsets of 4 bytes, and the names.
+fn exported() -> Vec<String> {
+    let archive = std::fs::read(env!("HOGUNLAS_ARCHIVE")).expect("the archive");
+    assert!(
+        archive.starts_with(b"!<arch>\n/ "),
+        "an archive with an index"
+    );
+    let text = |bytes: &[u8]| String::from_utf8_lossy(bytes).into_owned();
+    let size: usize = text(&archive[56..66]).trim().parse().expect("a size");
+    let index = &archive[68..68 + size];
+    let count = u32::from_be_bytes([index[0], index[1], index[2], index[3]]) as usize;
+    let names = index[4 + 4 * count..].split(|&byte| byte == 0);
+    names.take(count).map(text).collect()
+}
+
+/// A call that is exported but switched off would go untested.
+#[test]
+fn the_features_are_the_archives_calls() {
+    let exported = exported();
+    for (call, on) in [
+        ("hogunlas_judge", true),
+        ("hogunlas_run", cfg!(feature = "run")),
+        ("hogunlas_line", cfg!(feature = "line")),
+    ] {
+        let there = exported.iter().any(|name| name == call);
+        assert!(
+            there == on,
+            "{call}: in the archive {there}, switched on {on}; see `default` in Cargo.toml"
+        );
+    }
+}
+
+#[test]
+fn the_limits_are_the_reimplementations() {
+    assert_eq!(hogunlas::MAX_FILE, reader::MAX_FILE);
+    assert_eq!(hogunlas::MAX_REPORT, judge::MAX_REPORT);
+    assert_eq!(hogunlas::MAX_LIST, machine::MAX_LIST);
+    assert_eq!(hogunlas::LINE_BUFFER, printout::LINE_BUFFER);
+    let largest = reader::MAX_VARIABLES * 4 + reader::MAX_LOCKS + reader::MAX_THREADS * 34;
+    assert_eq!(hogunlas::MAX_STATE, largest);
+}
+
+/// Each limit stands in the header under the name it has here.
+#[test]
+fn the_limits_are_the_headers() {
+    let header = include_str!("../../include/hogunlas.h");
+    for (name, limit) in [
+        ("MAX_FILE", hogunlas::MAX_FILE),
+        ("MAX_REPORT", hogunlas::MAX_REPORT),
+        ("MAX_LIST", hogunlas::MAX_LIST),
+        ("MAX_STATE", hogunlas::MAX_STATE),
+        ("LINE_BUFFER", hogunlas::LINE_BUFFER),
+    ] {
+        let definition = format!("#define HOGUNLAS_{name} {limit} ");
+        assert!(header.contains(&definition), "{definition}");
+    }
+}

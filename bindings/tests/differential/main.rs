@@ -1,0 +1,12 @@
+//! The compiled library against the Rust reimplementation: the same answers, and the same bytes
+//! in and around every buffer that is lent.
+//!
+//! A seed names a file (`generate` of the reimplementation), so a failure is repeated by its seed.
+
+mod judge;
+#[cfg(feature = "line")]
+mod line;
+#[cfg(feature = "run")]
+mod run;
+mod support;
+mod vectors;

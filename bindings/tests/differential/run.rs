@@ -1,0 +1,124 @@
+//! run on generated files and lists.
+
+use hogunlas::{Counts, Refusal, MAX_FILE, MAX_LIST, MAX_STATE};
+use hogunlas_reference::generate::{self, Rng};
+use hogunlas_reference::state_length;
+
+use crate::support::{lend, Tally};
+
+const ACCEPTED_FILES: u64 = 100_000;
+const FILES_OF_ANY_KIND: u64 = 20_000;
+
+/// Compares one call, and answers what both said.
+fn compare(seed: u64, file: &[u8], list: &[u8], length: usize) -> Result<Counts, Refusal> {
+    let wanted = lend(seed, length, |state| {
+        hogunlas_reference::run(file, list, state).map(as_ours)
+    });
+    let ran = lend(seed, length, |state| hogunlas::run(file, list, state));
+    ran.assert_is(
+        &wanted,
+        format_args!("run, seed {seed}, {} entries into {length}", list.len()),
+    );
+    ran.answer
+}
+
+fn as_ours(counts: hogunlas_reference::Counts) -> Counts {
+    Counts {
+        moved: counts.moved,
+        waiting: counts.waiting,
+        idle: counts.idle,
+    }
+}
+
+/// An accepted file: mostly of some threads; some small ones full of blocks, some deep ones, and a
+/// few of the largest.
+fn accepted_file(rng: &mut Rng) -> Vec<u8> {
+    match rng.below(1_000) {
+        0..=2 => generate::largest_file(rng),
+        3..=22 => generate::deep_file(rng, 16),
+        23..=299 => generate::small_accepted_file(rng),
+        _ => generate::accepted_file(rng),
+    }
+}
+
+/// A list of any kind (bursts, round robin, random; empty, with bad numbers, 65,536 entries and
+/// 65,537), or a long one.
+fn list(rng: &mut Rng, threads: usize) -> Vec<u8> {
+    if rng.chance(2) {
+        let length = rng.between(1_000, 5_000);
+        return generate::good_list(rng, threads, length);
+    }
+    generate::list(rng, threads)
+}
+
+/// A buffer's length: just enough, one byte short, or longer.
+fn some_length(rng: &mut Rng, needed: usize) -> usize {
+    match rng.below(4) {
+        0 => needed,
+        1 => needed.saturating_sub(1),
+        _ => needed + rng.between(1, 40),
+    }
+}
+
+#[test]
+fn run_agrees_on_accepted_files() {
+    let mut tally = Tally::default();
+    let mut totals = [0; 3];
+    for seed in 0..ACCEPTED_FILES {
+        let rng = &mut Rng::new(seed);
+        let file = accepted_file(rng);
+        let list = list(rng, usize::from(file[2]));
+        let needed = state_length(&file).expect("an accepted file");
+        let answer = compare(seed, &file, &list, some_length(rng, needed));
+        tally.add(&answer);
+        if let Ok(counts) = answer {
+            let kinds = [counts.moved, counts.waiting, counts.idle];
+            totals.iter_mut().zip(kinds).for_each(|(all, n)| *all += n);
+        }
+    }
+    tally.assert_met([0, 14, 15, 16]);
+    assert!(totals.iter().all(|&total| total > 100_000), "{totals:?}");
+}
+
+/// The file's and the writer's refusals come before the caller's, for every list and buffer.
+#[test]
+fn run_refuses_what_judge_refuses() {
+    let mut tally = Tally::default();
+    for seed in 0..FILES_OF_ANY_KIND {
+        let rng = &mut Rng::new(seed);
+        let file = generate::file(rng);
+        let threads = file.get(2).map_or(1, |&n| usize::from(n).clamp(1, 8));
+        let list = list(rng, threads);
+        let length = some_length(rng, state_length(&file).unwrap_or(40));
+        tally.add(&compare(seed, &file, &list, length));
+    }
+    tally.assert_met(0..=16);
+}
+
+#[test]
+fn run_agrees_at_the_limits() {
+    for seed in 0..20 {
+        let rng = &mut Rng::new(seed);
+        let file = generate::largest_file(rng);
+        assert_eq!(file.len(), MAX_FILE);
+        let mut list = generate::longest_list(rng, 8);
+        let counts = compare(seed, &file, &list, MAX_STATE).expect("an answer");
+        let sum = counts.moved + counts.waiting + counts.idle;
+        assert_eq!(sum, MAX_LIST as u64, "seed {seed}");
+        let short = compare(seed, &file, &list, MAX_STATE - 1);
+        assert_eq!(short, refused(16, MAX_STATE));
+        list[MAX_LIST - 1] = 8;
+        assert_eq!(compare(seed, &file, &list, 0), refused(15, MAX_LIST - 1));
+        list.push(0);
+        assert_eq!(compare(seed, &file, &list, 0), refused(14, MAX_LIST));
+        list.resize(3 * MAX_LIST, 0);
+        assert_eq!(compare(seed, &file, &list, 0), refused(14, MAX_LIST));
+    }
+}
+
+fn refused(number: u32, detail: usize) -> Result<Counts, Refusal> {
+    Err(Refusal {
+        number,
+        detail: detail as u64,
+    })
+}

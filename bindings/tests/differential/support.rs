@@ -1,0 +1,97 @@
+//! What the comparisons share: lent memory, outcomes, and how often each refusal was met.
+
+use std::collections::BTreeMap;
+use std::fmt::{Arguments, Debug};
+
+use hogunlas::Refusal;
+
+/// The bytes before and after a lent buffer that a call must leave alone too.
+const MARGIN: usize = 64;
+
+/// What a call said, and what the memory that it was lent a part of holds afterwards.
+pub struct Outcome<T> {
+    pub answer: Result<T, Refusal>,
+    memory: Vec<u8>,
+    /// Where the lent buffer begins.
+    start: usize,
+}
+
+/// Lends a call a buffer of `length` bytes between two margins. All of it is filled with a pattern
+/// that depends on the position and the salt, so that a shifted, kept or overwritten byte shows;
+/// the salt also moves the buffer, so that it begins at addresses of every alignment.
+pub fn lend<T, R: IntoRefusal>(
+    salt: u64,
+    length: usize,
+    call: impl FnOnce(&mut [u8]) -> Result<T, R>,
+) -> Outcome<T> {
+    let start = MARGIN + (salt % 16) as usize;
+    let mut memory: Vec<u8> = (0..start + length + MARGIN)
+        .map(|at| pattern(salt, at))
+        .collect();
+    let answer = call(&mut memory[start..start + length]).map_err(R::into_refusal);
+    Outcome {
+        answer,
+        memory,
+        start,
+    }
+}
+
+fn pattern(salt: u64, at: usize) -> u8 {
+    (at * 37 + at / 256 + 11) as u8 ^ (salt as u8).rotate_left(3)
+}
+
+/// The refusals of both sides, as the library's.
+pub trait IntoRefusal {
+    fn into_refusal(self) -> Refusal;
+}
+
+impl IntoRefusal for Refusal {
+    fn into_refusal(self) -> Refusal {
+        self
+    }
+}
+
+impl IntoRefusal for hogunlas_reference::Refusal {
+    fn into_refusal(self) -> Refusal {
+        Refusal {
+            number: self.number,
+            detail: self.detail,
+        }
+    }
+}
+
+impl<T: Debug + PartialEq> Outcome<T> {
+    /// Fails, and says where, unless answer and memory are as wanted.
+    pub fn assert_is(&self, wanted: &Outcome<T>, case: Arguments) {
+        let (answer, right) = (&self.answer, &wanted.answer);
+        assert_eq!(answer, right, "{case}: the answer is on the left");
+        assert_eq!(self.memory.len(), wanted.memory.len(), "{case}: not tested");
+        if self.memory != wanted.memory {
+            let mut bytes = self.memory.iter().zip(&wanted.memory);
+            let at = bytes.position(|(byte, right)| byte != right).unwrap();
+            let (byte, right) = (self.memory[at], wanted.memory[at]);
+            let index = at as i64 - self.start as i64;
+            panic!("{case}: {answer:?}, but byte {index} of the buffer is {byte} and not {right}");
+        }
+    }
+}
+
+/// How often each refusal number was met; 0 stands for answers.
+#[derive(Default)]
+pub struct Tally(BTreeMap<u32, u32>);
+
+impl Tally {
+    pub fn add<T>(&mut self, answer: &Result<T, Refusal>) {
+        let number = answer.as_ref().map_or_else(|refusal| refusal.number, |_| 0);
+        *self.0.entry(number).or_default() += 1;
+    }
+
+    /// Fails if one of the numbers was hardly met or not at all: then the files test too little.
+    pub fn assert_met(&self, numbers: impl IntoIterator<Item = u32>) {
+        println!("answers (0) and refusals met: {:?}", self.0);
+        for number in numbers {
+            let met = self.0.get(&number).copied().unwrap_or(0);
+            assert!(met >= 20, "refusal {number} met {met} times: {:?}", self.0);
+        }
+    }
+}

@@ -1,0 +1,146 @@
+//! The vectors of the reimplementation, which an independent implementation answered (see
+//! reference/vectors/README.md).
+
+use hogunlas::Refusal;
+
+use crate::support::lend;
+
+/// One line of a vector file, split into fields.
+struct Case<'t> {
+    fields: Vec<&'t str>,
+    line: usize,
+}
+
+impl Case<'_> {
+    fn bytes(&self, field: usize) -> Vec<u8> {
+        bytes(self.fields[field])
+    }
+
+    fn number(&self, field: usize) -> u64 {
+        number(self.fields[field])
+    }
+
+    /// The answer that starts at a field: what `answer` makes of the fields from there, with the
+    /// bytes it lays into the buffer, or the refusal that they state.
+    fn expected<T>(
+        &self,
+        from: usize,
+        answer: impl Fn(&[&str]) -> (T, Vec<u8>),
+    ) -> Result<(T, Vec<u8>), Refusal> {
+        match &self.fields[from..] {
+            ["refused", n, detail] => Err(Refusal {
+                number: number(n) as u32,
+                detail: number(detail),
+            }),
+            fields => Ok(answer(fields)),
+        }
+    }
+}
+
+fn number(field: &str) -> u64 {
+    field.parse().expect("a decimal number")
+}
+
+/// Bytes in hexadecimal; `-` stands for none.
+fn bytes(field: &str) -> Vec<u8> {
+    if field == "-" {
+        return Vec::new();
+    }
+    let digit = |byte: u8| char::from(byte).to_digit(16).expect("a digit") as u8;
+    let pairs = field.as_bytes().chunks_exact(2);
+    assert!(pairs.remainder().is_empty());
+    pairs
+        .map(|pair| digit(pair[0]) << 4 | digit(pair[1]))
+        .collect()
+}
+
+/// Checks each line of a vector file, and that there are as many as newlines.
+fn each_case(text: &str, check: impl Fn(&Case)) {
+    let mut cases = 0;
+    for (index, line) in text.lines().enumerate() {
+        check(&Case {
+            fields: line.split(' ').collect(),
+            line: index + 1,
+        });
+        cases += 1;
+    }
+    assert!(cases > 0);
+    assert_eq!(cases, text.matches('\n').count());
+}
+
+/// Lends a buffer to the call, and another to the expected answer's bytes: the two must look alike.
+fn check<T: std::fmt::Debug + PartialEq + Copy>(
+    case: &Case,
+    length: u64,
+    expected: Result<(T, Vec<u8>), Refusal>,
+    call: impl FnOnce(&mut [u8]) -> Result<T, Refusal>,
+) {
+    let (salt, length) = (case.line as u64, length as usize);
+    let wanted = lend(salt, length, |buffer| {
+        let (answer, bytes) = expected?;
+        buffer[..bytes.len()].copy_from_slice(&bytes);
+        Ok::<T, Refusal>(answer)
+    });
+    let name = case.fields[0];
+    lend(salt, length, call).assert_is(&wanted, format_args!("line {} of {name}.txt", case.line));
+}
+
+#[test]
+fn judge_answers_its_vectors() {
+    let answer = |fields: &[&str]| match fields {
+        ["report", report] => (bytes(report).len(), bytes(report)),
+        _ => panic!("not an answer: {fields:?}"),
+    };
+    each_case(
+        include_str!("../../../reference/vectors/judge.txt"),
+        |case| {
+            let file = case.bytes(1);
+            let expected = case.expected(3, answer);
+            check(case, case.number(2), expected, |report| {
+                hogunlas::judge(&file, report)
+            });
+        },
+    );
+}
+
+#[cfg(feature = "run")]
+#[test]
+fn run_answers_its_vectors() {
+    let answer = |fields: &[&str]| match fields {
+        ["counts", moved, waiting, idle, "state", state] => {
+            let counts = hogunlas::Counts {
+                moved: number(moved),
+                waiting: number(waiting),
+                idle: number(idle),
+            };
+            (counts, bytes(state))
+        }
+        _ => panic!("not an answer: {fields:?}"),
+    };
+    each_case(include_str!("../../../reference/vectors/run.txt"), |case| {
+        let (file, list) = (case.bytes(1), case.bytes(2));
+        let expected = case.expected(4, answer);
+        check(case, case.number(3), expected, |state| {
+            hogunlas::run(&file, &list, state)
+        });
+    });
+}
+
+#[cfg(feature = "line")]
+#[test]
+fn line_answers_its_vectors() {
+    let answer = |fields: &[&str]| match fields {
+        ["text", text] => (bytes(text).len(), bytes(text)),
+        _ => panic!("not an answer: {fields:?}"),
+    };
+    each_case(
+        include_str!("../../../reference/vectors/line.txt"),
+        |case| {
+            let (file, i) = (case.bytes(1), case.number(2));
+            let expected = case.expected(4, answer);
+            check(case, case.number(3), expected, |text| {
+                hogunlas::line(&file, i, text)
+            });
+        },
+    );
+}
