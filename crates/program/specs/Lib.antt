@@ -7,6 +7,7 @@
 --     Nesting      entries and named places
 --     Layout       the whole file, front to back, and its contents
 --     Code         structured code
+--     WellFormed   structured code that a file can hold; for a theorem only
 pub mod Refusal
 pub mod Choice
 pub mod Field
@@ -15,3 +16,4 @@ pub mod Instruction
 pub mod Nesting
 pub mod Layout
 pub mod Code
+pub mod WellFormed

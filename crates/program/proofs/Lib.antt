@@ -1,0 +1,4 @@
+pub mod StructureFlat
+pub mod StructureTurn
+pub mod Structure
+pub mod Jumps
