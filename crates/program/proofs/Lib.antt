@@ -1,4 +1,5 @@
 pub mod StructureFlat
 pub mod StructureTurn
 pub mod Structure
+pub mod StructureScan
 pub mod Jumps

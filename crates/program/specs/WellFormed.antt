@@ -7,7 +7,7 @@ use lib.ListN.{length}
 use Rattle.program.specs.declared.found.Found.the-variants.{Nowhere}
 use Rattle.program.specs.declared.nesting.Entry.{Entry}
 use Rattle.program.specs.declared.nesting.Entry.the-variants as entry
-use Rattle.program.specs.Nesting.{firstBroken}
+use Rattle.program.specs.Nesting.{named, firstBroken}
 use Rattle.program.specs.declared.instruction.Instruction.{Instruction}
 use Rattle.program.specs.declared.instruction.Instruction.the-variants as instruction
 use Rattle.program.specs.declared.instruction.Form.{Form}
@@ -86,3 +86,8 @@ pub record Body (q w : ℕ) (is : List Instruction) (es es′ : List Entry) (i :
 -- what reads every list of less than k instructions
 abbrev pub Parser : ℕ → Type 0
 Parser k = (p : ℕ) (is : List Instruction) (es : List Entry) → length is < k → length es ≤ 16 → Passes p is es → Parsed p is es
+
+-- the innermost entry names a place from q on
+unfoldable pub Beyond : ℕ → List Entry → Type 0
+Beyond q [] = Unit
+Beyond q (e ∷ es) = q ≤ named e
