@@ -1,7 +1,7 @@
 -- From structured code to the scan of `Nesting`: the scan passes over the flat writing of well formed code that is at most 16 deep.
 --
 -- In order: that no entry names a place that lies before all named ones; one turn of the scan for each form; the scan over the
--- flat writing of a code (`scan-flat`); the theorem, `flat-nested`.
+-- flat writing of a code (`scan-flat`), and over the whole (`scan-all`).
 -- Assumes nothing.
 use Prim.Native.Nat.{ℕ, zero, suc, _+_, _≤_, _<_}
 use native.Mathlib.Omega.{arith}

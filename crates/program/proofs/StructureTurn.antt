@@ -1,3 +1,7 @@
+-- What a scan that passes has come to (`turn`): each turn of `firstBroken` read backwards, from the answer to what was tested.
+--
+-- In order: a test that was passed; the turns at a plain instruction, an opener, each closer; all of them.
+-- Assumes nothing.
 use Prim.Native.Nat.{ℕ, suc, _+_, _<_}
 use native.Mathlib.Omega.{arith}
 use mathlib.Core.Bool.{Bool, true, false, _&&_, not}
@@ -18,6 +22,8 @@ use Rattle.program.specs.Instruction.{formOf}
 use Rattle.program.specs.Nesting.{broken, opened, unnamed, opening, passing, atElse, atAgain, atEnd, nest, atCodeEnd, goOn, firstBroken}
 use Rattle.program.specs.WellFormed.{Passes, Closes, at-code-end, at-else, at-again, at-choice-end, at-block-end, Turn, closes, at-plain, at-if, at-while, at-atomic}
 
+-- ---- tests
+
 at≢nowhere : {A : Type 0} {p : ℕ} → At p ≡ Nowhere → A
 at≢nowhere e = let z : _≡_ {A = ℕ} 0 1 = cc in absurd (omega arith)
 
@@ -26,6 +32,7 @@ tested : (p : ℕ) (b : Bool) (es : List Entry) (rest : List Entry → Found) �
 tested p true es rest h = (refl, h)
 tested p false es rest h = at≢nowhere h
 
+-- both of two tests hold
 and-left : (a b : Bool) → (a && b) ≡ true → a ≡ true
 and-left true b h = refl
 and-left false b h = h
@@ -33,6 +40,8 @@ and-left false b h = h
 and-right : (a b : Bool) → (a && b) ≡ true → b ≡ true
 and-right true b h = h
 and-right false b h = cc
+
+-- ---- turns
 
 module _ (p : ℕ) (is : List Instruction) (es : List Entry) where
   turn-plain : (i : Instruction) → formOf i ≡ Plain → Passes p (i ∷ is) es → Turn p (i ∷ is) es
