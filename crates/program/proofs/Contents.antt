@@ -1,0 +1,1 @@
+-- A file's contents by index. Assumes nothing.
