@@ -17,16 +17,16 @@ use Rattle.program.specs.declared.nesting.Entry.{Entry}
 use Rattle.program.specs.declared.nesting.Entry.the-variants as entry
 use Rattle.program.specs.Instruction.{formOf}
 use Rattle.program.specs.Nesting.{named, firstBroken}
-use Rattle.program.specs.WellFormed.{Passes, Closes, at-code-end, at-else, at-again, at-choice-end, at-block-end, Turn, closes, at-plain, at-if, at-while, at-atomic, Inside, LeadsBack, LeadBack, Jump, Jumps}
+use Rattle.program.specs.WellFormed.{Passes, at-code-end, at-else, at-again, at-choice-end, at-block-end, Turn, closes, at-plain, at-if, at-while, at-atomic, Inside, LeadsBack, LeadBack, Jump, Jumps}
 use Rattle.program.proofs.StructureTurn.{turn}
 
 -- ---- the scan
 
--- one turn: the entries' places are inside and the jumps lead inside, if that is so from the next place on
 module _ {q p : ℕ} where
+  -- one turn: the entries' places are inside and the jumps lead inside, if that is so from the next place on
   jumps-turn : {i : Instruction} {is : List Instruction} {es : List Entry} → p < q
-    → ((es : List Entry) → LeadBack es → Passes (suc p) is es → Inside q es × Jumps q (suc p) is)
-    → LeadBack es → Turn p (i ∷ is) es → Inside q es × (Jump q p (formOf i) × Jumps q (suc p) is)
+      → ((es : List Entry) → LeadBack es → Passes (suc p) is es → Inside q es × Jumps q (suc p) is)
+      → LeadBack es → Turn p (i ∷ is) es → Inside q es × (Jump q p (formOf i) × Jumps q (suc p) is)
   unfolding Inside LeadsBack LeadBack named formOf
   jumps-turn {es = es} l next f (at-plain e h) = let t = next es f h in (t .0, (subst (Jump q p) (sym e) tt, t .1))
   jumps-turn {es = es} l next f (at-if {n = n} s h) = let t = next (entry.Then (p + n) ∷ es) (tt, f) h in (t .0 .1, (t .0 .0, t .1))
@@ -50,6 +50,7 @@ jumps-all q p (i ∷ is) es e f h = jumps-turn (omega arith) (λ es f h. jumps-a
 
 -- ---- one place
 
+-- the jump at the i-th place from p on
 jump-at : (q p : ℕ) (is : List Instruction) (i : ℕ) → i < length is → Jumps q p is → Jump q (p + i) (formOf (getD is i instruction.End))
 unfolding Jumps
 jump-at q p [] i l j = absurd (omega arith)
@@ -57,10 +58,12 @@ jump-at q p (x ∷ is) zero l j = rw add-zero (j .0)
 jump-at q p (x ∷ is) (suc i) l j = rw (add-suc, ← (suc-add p i)) (jump-at q (suc p) is i (omega arith) (j .1))
 
 module _ (is : List Instruction) (h : firstBroken 0 is [] ≡ Nowhere) (i : ℕ) (l : i < length is) where
-  jump : Jump (length is) i (formOf (getD is i instruction.End))
+  -- the i-th instruction's distance leads to a place of the code
+  pub jump : Jump (length is) i (formOf (getD is i instruction.End))
   unfolding LeadBack
   jump = rw zero-add at (jump-at (length is) 0 is i l (jumps-all (length is) 0 is [] (zero-add (length is)) tt h .1))
 
+  -- the same, form by form
   pub jump-if : (r n : ℕ) → formOf (getD is i instruction.End) ≡ If r n → i + n < length is
   jump-if r n e = rw e at jump
 

@@ -24,8 +24,8 @@ writes-structured {c = c} w = sym (structured-flat c (w .well-formed)) ∙ ap st
 -- instructions whose nesting the scan passes write out the code read from them
 pub nested-flat : (is : List Instruction) → firstBroken 0 is [] ≡ Nowhere → Writes is (structured is)
 nested-flat is h =
-  let (c, w) = read-nested is h in
-  subst (Writes is) (writes-structured w) w
+    let (c, w) = read-nested is h in
+    subst (Writes is) (writes-structured w) w
 
 -- the scan passes the flat writing of well formed code that is at most 16 deep
 pub flat-nested : (c : Code) → WellFormed c → depth c ≤ 16 → firstBroken 0 (flat c) [] ≡ Nowhere
@@ -33,4 +33,4 @@ flat-nested = scan-all
 
 pub nested-exactly : (is : List Instruction) → (firstBroken 0 is [] ≡ Nowhere) ↔ Writes is (structured is)
 nested-exactly is =
-  (nested-flat is, λ w. subst (λ (is : List Instruction). firstBroken 0 is [] ≡ Nowhere) (w .flat-is) (flat-nested (structured is) (w .well-formed) (w .shallow)))
+    (nested-flat is, λ w. subst (λ (is : List Instruction). firstBroken 0 is [] ≡ Nowhere) (w .flat-is) (flat-nested (structured is) (w .well-formed) (w .shallow)))

@@ -3,7 +3,7 @@
 use Prim.Native.Nat.{ℕ, zero, suc, _+_, _-_, _≤_}
 use native.Mathlib.Omega.{arith}
 use mathlib.Core.Path.{_≡_, refl, ap, _∙_}
-use mathlib.Core.List.{List, [], _∷_, _++_}
+use mathlib.Core.List.{List, _∷_, _++_}
 use lib.ListN.{length, getD, take, drop, length-append}
 use lib.Seq.{take-at, getD-at, drop-append-add, drop-drop}
 use Rattle.program.specs.declared.instruction.Instruction.{Instruction}
@@ -46,19 +46,32 @@ structure-flat (plain i c) zero w l = absurd (omega arith)
 structure-flat (plain i c) (suc k) w l = structure-plain i (flat c) k (w .0) ∙ ap (plain i) (structure-flat c k (w .1) (omega arith))
 structure-flat (choice r a b c) zero w l = absurd (omega arith)
 structure-flat (choice r a b c) (suc k) w l =
-  let else = Else (size b + 1) in
-  let after = flat b ++ (End ∷ flat c) in
-  rw (getD-flat a else after, ← (drop-drop (size b + 1) (size a + 1) (flat a ++ (else ∷ after))), take-flat a (else ∷ after), drop-flat a else after,
-    take-flat b (End ∷ flat c), drop-flat b End (flat c),
-    structure-flat a k (w .0) (omega arith), structure-flat b k (w .1) (omega arith), structure-flat c k (w .2) (omega arith))
+    let else = Else (size b + 1) in
+    let after = flat b ++ (End ∷ flat c) in
+    rw (
+      getD-flat a else after,
+      ← (drop-drop (size b + 1) (size a + 1) (flat a ++ (else ∷ after))),
+      take-flat a (else ∷ after),
+      drop-flat a else after,
+      take-flat b (End ∷ flat c),
+      drop-flat b End (flat c),
+      structure-flat a k (w .0) (omega arith),
+      structure-flat b k (w .1) (omega arith),
+      structure-flat c k (w .2) (omega arith),
+    )
 structure-flat (loop r a c) zero w l = absurd (omega arith)
 structure-flat (loop r a c) (suc k) w l =
-  rw (take-flat a (Again (size a + 1) ∷ flat c), drop-flat a (Again (size a + 1)) (flat c),
-    structure-flat a k (w .0) (omega arith), structure-flat c k (w .1) (omega arith))
+    rw (
+      take-flat a (Again (size a + 1) ∷ flat c),
+      drop-flat a (Again (size a + 1)) (flat c),
+      structure-flat a k (w .0) (omega arith),
+      structure-flat c k (w .1) (omega arith),
+    )
 structure-flat (block a c) zero w l = absurd (omega arith)
 structure-flat (block a c) (suc k) w l =
-  rw (take-flat a (End ∷ flat c), drop-flat a End (flat c), structure-flat a k (w .0) (omega arith), structure-flat c k (w .1) (omega arith))
+    rw (take-flat a (End ∷ flat c), drop-flat a End (flat c), structure-flat a k (w .0) (omega arith), structure-flat c k (w .1) (omega arith))
 
+-- so the flat writing of two codes differs if they do
 pub structured-flat : (c : Code) → WellFormed c → structured (flat c) ≡ c
 unfolding structured
 structured-flat c w = structure-flat c (length (flat c)) w (omega (arith, length-flat c))

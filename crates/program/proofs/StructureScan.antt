@@ -3,9 +3,9 @@
 -- In order: that no entry names a place that lies before all named ones; one turn of the scan for each form; the scan over the
 -- flat writing of a code (`scan-flat`), and over the whole (`scan-all`).
 -- Assumes nothing.
-use Prim.Native.Nat.{ℕ, zero, suc, _+_, _≤_, _<_}
+use Prim.Native.Nat.{ℕ, suc, _+_, _≤_, _<_}
 use native.Mathlib.Omega.{arith}
-use mathlib.Core.Bool.{Bool, true, false}
+use mathlib.Core.Bool.{true}
 use mathlib.Core.Path.{_≡_, refl, sym, ap, _∙_}
 use mathlib.Core.List.{List, [], _∷_, _++_, append-assoc, append-nil}
 use lib.ListN.{length}
@@ -19,7 +19,7 @@ use Rattle.program.specs.declared.nesting.Entry.the-variants as entry
 use Rattle.program.specs.Instruction.{formOf}
 use Rattle.program.specs.Nesting.{opened, named, unnamed, opening, passing, atElse, atAgain, atEnd, nest, atCodeEnd, firstBroken}
 use Rattle.program.specs.Code.{Code, done, plain, choice, loop, block, size, flat}
-use Rattle.program.specs.WellFormed.{WellFormed, depth, Writes, Beyond}
+use Rattle.program.specs.WellFormed.{WellFormed, depth, Beyond}
 
 -- ---- a turn of the scan
 
@@ -30,10 +30,12 @@ unnamed-before p q [] l b = refl
 unnamed-before p q (e ∷ es) l b = rw (ne-eqb (named e) p (omega arith))
 
 module _ (p : ℕ) (is : List Instruction) (es : List Entry) where
+  -- it goes on behind a plain instruction
   scan-plain : (i : Instruction) → formOf i ≡ Plain → unnamed p es ≡ true → firstBroken p (i ∷ is) es ≡ firstBroken (suc p) is es
   unfolding firstBroken nest passing
   scan-plain i e u = rw (e, u)
 
+  -- an opener's entry opens
   opens : (n : ℕ) (e : Entry) → unnamed p es ≡ true → 0 < n → length es < 16 → opening p n e es ≡ opened (e ∷ es)
   unfolding opening
   opens n e u d l = rw (u, ne-eqb n 0 (omega arith), lt-ltb (length es) 16 l)
@@ -50,6 +52,7 @@ module _ (p : ℕ) (is : List Instruction) (es : List Entry) where
   unfolding firstBroken nest formOf
   scan-atomic n u d l = rw (opens n (entry.Block (p + n)) u d l)
 
+  -- a closer at the place that the innermost entry names closes it
   scan-else : (n : ℕ) → 0 < n → firstBroken p (Else n ∷ is) (entry.Then p ∷ es) ≡ firstBroken (suc p) is (entry.Else (p + n) ∷ es)
   unfolding firstBroken nest formOf atElse
   scan-else n d = rw (eq-eqb p p refl, ne-eqb n 0 (omega arith))
@@ -68,16 +71,17 @@ module _ (p : ℕ) (is : List Instruction) (es : List Entry) where
 
 -- ---- the scan over the flat writing
 
+-- from place p to place q, behind the code, if no entry is to be closed before that
 scan-flat : (c : Code) (p q : ℕ) (rest : List Instruction) (es : List Entry) → p + size c ≡ q → WellFormed c → length es + depth c ≤ 16 → Beyond q es
     → firstBroken p (flat c ++ rest) es ≡ firstBroken q rest es
 unfolding flat size depth WellFormed Beyond named
 scan-flat done p q rest es e w d b = ap (λ (p : ℕ). firstBroken p rest es) (omega arith)
 scan-flat (plain i c) p q rest es e w d b =
-  scan-plain p (flat c ++ rest) es i (w .0) (unnamed-before p q es (omega arith) b) ∙ scan-flat c (suc p) q rest es (omega arith) (w .1) d b
+    scan-plain p (flat c ++ rest) es i (w .0) (unnamed-before p q es (omega arith) b) ∙ scan-flat c (suc p) q rest es (omega arith) (w .1) d b
 scan-flat (choice r x y c) p q rest es e w d b =
-  let n = size x + 1 in
-  let m = size y + 1 in
-  rw (append-assoc (flat x) (Else m ∷ flat y ++ (End ∷ flat c)) rest, append-assoc (flat y) (End ∷ flat c) rest)
+    let n = size x + 1 in
+    let m = size y + 1 in
+    rw (append-assoc (flat x) (Else m ∷ flat y ++ (End ∷ flat c)) rest, append-assoc (flat y) (End ∷ flat c) rest)
     (scan-if p (flat x ++ (Else m ∷ flat y ++ (End ∷ (flat c ++ rest)))) es r n (unnamed-before p q es (omega arith) b) (omega arith) (omega arith)
     ∙ scan-flat x (suc p) (p + n) (Else m ∷ flat y ++ (End ∷ (flat c ++ rest))) (entry.Then (p + n) ∷ es) (omega arith) (w .0) (omega arith) (omega arith)
     ∙ scan-else (p + n) (flat y ++ (End ∷ (flat c ++ rest))) es m (omega arith)
@@ -85,15 +89,15 @@ scan-flat (choice r x y c) p q rest es e w d b =
     ∙ scan-choice-end (p + n + m) (flat c ++ rest) es
     ∙ scan-flat c (suc (p + n + m)) q rest es (omega arith) (w .2) (omega arith) b)
 scan-flat (loop r a c) p q rest es e w d b =
-  let n = size a + 1 in
-  rw (append-assoc (flat a) (Again n ∷ flat c) rest)
+    let n = size a + 1 in
+    rw (append-assoc (flat a) (Again n ∷ flat c) rest)
     (scan-while p (flat a ++ (Again n ∷ (flat c ++ rest))) es r n (unnamed-before p q es (omega arith) b) (omega arith) (omega arith)
     ∙ scan-flat a (suc p) (p + n) (Again n ∷ (flat c ++ rest)) (entry.Loop (p + n) n ∷ es) (omega arith) (w .0) (omega arith) (omega arith)
     ∙ scan-again (p + n) (flat c ++ rest) es n (omega arith)
     ∙ scan-flat c (suc (p + n)) q rest es (omega arith) (w .1) (omega arith) b)
 scan-flat (block a c) p q rest es e w d b =
-  let n = size a + 1 in
-  rw (append-assoc (flat a) (End ∷ flat c) rest)
+    let n = size a + 1 in
+    rw (append-assoc (flat a) (End ∷ flat c) rest)
     (scan-atomic p (flat a ++ (End ∷ (flat c ++ rest))) es n (unnamed-before p q es (omega arith) b) (omega arith) (omega arith)
     ∙ scan-flat a (suc p) (p + n) (End ∷ (flat c ++ rest)) (entry.Block (p + n) ∷ es) (omega arith) (w .0) (omega arith) (omega arith)
     ∙ scan-block-end (p + n) (flat c ++ rest) es

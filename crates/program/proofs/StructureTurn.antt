@@ -24,6 +24,7 @@ use Rattle.program.specs.WellFormed.{Passes, Closes, at-code-end, at-els
 
 -- ---- tests
 
+-- broken somewhere is not broken nowhere
 at≢nowhere : {A : Type 0} {p : ℕ} → At p ≡ Nowhere → A
 at≢nowhere e = let z : _≡_ {A = ℕ} 0 1 = cc in absurd (omega arith)
 
@@ -44,24 +45,27 @@ and-right false b h = cc
 -- ---- turns
 
 module _ (p : ℕ) (is : List Instruction) (es : List Entry) where
+  -- at a plain instruction
   turn-plain : (i : Instruction) → formOf i ≡ Plain → Passes p (i ∷ is) es → Turn p (i ∷ is) es
   unfolding firstBroken nest passing
   turn-plain i e h = at-plain e (tested p (unnamed p es) es (firstBroken (suc p) is) (rw e at h) .1)
 
+  -- at an opener, whose entry is e
   turn-open : (n : ℕ) (e : Entry) → goOn p (opening p n e es) (firstBroken (suc p) is) ≡ Nowhere → (length es < 16) × Passes (suc p) is (e ∷ es)
   unfolding opening
   turn-open n e h =
-    let t = tested p (unnamed p es && not (eqb n 0) && ltb (length es) 16) (e ∷ es) (firstBroken (suc p) is) h in
-    (ltb-true (length es) 16 (and-right (unnamed p es && not (eqb n 0)) (ltb (length es) 16) (t .0)), t .1)
+      let t = tested p (unnamed p es && not (eqb n 0) && ltb (length es) 16) (e ∷ es) (firstBroken (suc p) is) h in
+      (ltb-true (length es) 16 (and-right (unnamed p es && not (eqb n 0)) (ltb (length es) 16) (t .0)), t .1)
 
 module _ (p : ℕ) (is : List Instruction) where
+  -- at each closer: of all entries one only passes
   turn-else : (n : ℕ) (es : List Entry) → goOn p (atElse p n es) (firstBroken (suc p) is) ≡ Nowhere → Closes p (Else n ∷ is) es
   unfolding atElse
   turn-else n [] h = at≢nowhere h
   turn-else n (entry.Then w ∷ es) h =
-    let t = tested p (eqb w p && not (eqb n 0)) (entry.Else (p + n) ∷ es) (firstBroken (suc p) is) h in
-    let e = eqb-true w p (and-left (eqb w p) (not (eqb n 0)) (t .0)) in
-    at-else e (rw (← e) at (t .1))
+      let t = tested p (eqb w p && not (eqb n 0)) (entry.Else (p + n) ∷ es) (firstBroken (suc p) is) h in
+      let e = eqb-true w p (and-left (eqb w p) (not (eqb n 0)) (t .0)) in
+      at-else e (rw (← e) at (t .1))
   turn-else n (entry.Else w ∷ es) h = at≢nowhere h
   turn-else n (entry.Loop w m ∷ es) h = at≢nowhere h
   turn-else n (entry.Block w ∷ es) h = at≢nowhere h
@@ -72,9 +76,9 @@ module _ (p : ℕ) (is : List Instruction) where
   turn-again n (entry.Then w ∷ es) h = at≢nowhere h
   turn-again n (entry.Else w ∷ es) h = at≢nowhere h
   turn-again n (entry.Loop w m ∷ es) h =
-    let t = tested p (eqb w p && not (eqb n 0) && eqb n m) es (firstBroken (suc p) is) h in
-    let e = eqb-true w p (and-left (eqb w p) (not (eqb n 0)) (and-left (eqb w p && not (eqb n 0)) (eqb n m) (t .0))) in
-    rw (← (eqb-true n m (and-right (eqb w p && not (eqb n 0)) (eqb n m) (t .0)))) (at-again e (rw (← e) at (t .1)))
+      let t = tested p (eqb w p && not (eqb n 0) && eqb n m) es (firstBroken (suc p) is) h in
+      let e = eqb-true w p (and-left (eqb w p) (not (eqb n 0)) (and-left (eqb w p && not (eqb n 0)) (eqb n m) (t .0))) in
+      rw (← (eqb-true n m (and-right (eqb w p && not (eqb n 0)) (eqb n m) (t .0)))) (at-again e (rw (← e) at (t .1)))
   turn-again n (entry.Block w ∷ es) h = at≢nowhere h
 
   turn-end : (es : List Entry) → goOn p (atEnd p es) (firstBroken (suc p) is) ≡ Nowhere → Closes p (End ∷ is) es
@@ -82,14 +86,14 @@ module _ (p : ℕ) (is : List Instruction) where
   turn-end [] h = at≢nowhere h
   turn-end (entry.Then w ∷ es) h = at≢nowhere h
   turn-end (entry.Else w ∷ es) h =
-    let t = tested p (eqb w p) es (firstBroken (suc p) is) h in
-    let e = eqb-true w p (t .0) in
-    at-choice-end e (rw (← e) at (t .1))
+      let t = tested p (eqb w p) es (firstBroken (suc p) is) h in
+      let e = eqb-true w p (t .0) in
+      at-choice-end e (rw (← e) at (t .1))
   turn-end (entry.Loop w m ∷ es) h = at≢nowhere h
   turn-end (entry.Block w ∷ es) h =
-    let t = tested p (eqb w p) es (firstBroken (suc p) is) h in
-    let e = eqb-true w p (t .0) in
-    at-block-end e (rw (← e) at (t .1))
+      let t = tested p (eqb w p) es (firstBroken (suc p) is) h in
+      let e = eqb-true w p (t .0) in
+      at-block-end e (rw (← e) at (t .1))
 
 -- what a scan that passes has come to
 pub turn : (p : ℕ) (is : List Instruction) (es : List Entry) → Passes p is es → Turn p is es

@@ -49,24 +49,24 @@ Passes p is es = firstBroken p is es ≡ Nowhere
 pub data Closes (p : ℕ) : List Instruction → List Entry → Type 0 where
   at-code-end : Closes p [] []
   at-else : {n w : ℕ} {is : List Instruction} {es : List Entry} → w ≡ p → Passes (suc w) is (entry.Else (w + n) ∷ es)
-    → Closes p (instruction.Else n ∷ is) (entry.Then w ∷ es)
+      → Closes p (instruction.Else n ∷ is) (entry.Then w ∷ es)
   at-again : {n w : ℕ} {is : List Instruction} {es : List Entry} → w ≡ p → Passes (suc w) is es
-    → Closes p (instruction.Again n ∷ is) (entry.Loop w n ∷ es)
+      → Closes p (instruction.Again n ∷ is) (entry.Loop w n ∷ es)
   at-choice-end : {w : ℕ} {is : List Instruction} {es : List Entry} → w ≡ p → Passes (suc w) is es
-    → Closes p (instruction.End ∷ is) (entry.Else w ∷ es)
+      → Closes p (instruction.End ∷ is) (entry.Else w ∷ es)
   at-block-end : {w : ℕ} {is : List Instruction} {es : List Entry} → w ≡ p → Passes (suc w) is es
-    → Closes p (instruction.End ∷ is) (entry.Block w ∷ es)
+      → Closes p (instruction.End ∷ is) (entry.Block w ∷ es)
 
 -- it has come to any place
 pub data Turn (p : ℕ) : List Instruction → List Entry → Type 0 where
   closes : {is : List Instruction} {es : List Entry} → Closes p is es → Turn p is es
   at-plain : {i : Instruction} {is : List Instruction} {es : List Entry} → formOf i ≡ Plain → Passes (suc p) is es → Turn p (i ∷ is) es
   at-if : {r n : ℕ} {is : List Instruction} {es : List Entry} → length es < 16 → Passes (suc p) is (entry.Then (p + n) ∷ es)
-    → Turn p (instruction.If r n ∷ is) es
+      → Turn p (instruction.If r n ∷ is) es
   at-while : {r n : ℕ} {is : List Instruction} {es : List Entry} → length es < 16 → Passes (suc p) is (entry.Loop (p + n) n ∷ es)
-    → Turn p (instruction.While r n ∷ is) es
+      → Turn p (instruction.While r n ∷ is) es
   at-atomic : {n : ℕ} {is : List Instruction} {es : List Entry} → length es < 16 → Passes (suc p) is (entry.Block (p + n) ∷ es)
-    → Turn p (instruction.Atomic n ∷ is) es
+      → Turn p (instruction.Atomic n ∷ is) es
 
 -- ---- code read from instructions
 
