@@ -1,6 +1,7 @@
 -- Laws that belong to no one function.
 --     Decode           what a decoded instruction's fields satisfy
 --     Contents         a file's contents by index
+--     Search           the search for the first offence
 --     Structure        nesting passes exactly for the flat writing of structured code
 --     StructureFlat    ... the flat writing, and reading it back
 --     StructureTurn    ... what a scan that passes has come to
@@ -9,6 +10,7 @@
 --     Jumps            distances lead to places of the code
 pub mod Decode
 pub mod Contents
+pub mod Search
 pub mod StructureFlat
 pub mod StructureTurn
 pub mod StructureParse

@@ -1,0 +1,8 @@
+-- Laws that belong to no one function.
+--     LockSets   sets of 16 flags: comparing them
+--     Answers    going on with what was answered
+--     Reports    bytes stored one after the other
+pub mod LockSets
+pub mod Answers
+pub mod Reports
+pub mod Scanning
