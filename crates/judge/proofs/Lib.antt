@@ -6,3 +6,4 @@ pub mod LockSets
 pub mod Answers
 pub mod Reports
 pub mod Scanning
+pub mod Rules
