@@ -7,3 +7,4 @@ pub mod Answers
 pub mod Reports
 pub mod Scanning
 pub mod Rules
+pub mod RulesProgram
