@@ -8,3 +8,4 @@ pub mod Reports
 pub mod Scanning
 pub mod Rules
 pub mod RulesProgram
+pub mod RulesFile
