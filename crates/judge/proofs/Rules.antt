@@ -6,12 +6,13 @@
 --     judge-typed                what judging finds has a derivation
 --     typed-judge                what has a derivation, judging finds, its report included
 --     judge-report               the derivation that judging finds has the report that judging makes
+--     judge-exactly              both: well formed code is judged fine exactly with what a derivation says
 --     typed-unique               code has one lock set after it, one atomicity and one report at most
 -- Assumes nothing.
 use Prim.Native.Nat.{ℕ, _+_, _*_}
 use native.Mathlib.Omega.{arith}
 use mathlib.Core.Path.{_≡_, refl, sym, ap, _∙_, subst}
-use mathlib.Core.Logic.{_≢_}
+use mathlib.Core.Logic.{_≢_, _↔_}
 use mathlib.Core.Bool.{Bool, true, false, not}
 use mathlib.Core.List.{List}
 use lib.Dec.{eqb}
@@ -25,10 +26,10 @@ use Rattle.program.specs.WellFormed.{WellFormed}
 use Rattle.program.specs.declared.instruction.Instruction.{Instruction}
 use Rattle.program.specs.declared.instruction.Instruction.the-variants.{Set, Copy, Add, Sub, Less, Read, Write, Take, Give, If, Else, While, Again, Atomic, End}
 use Rattle.program.specs.declared.refusal.Refusal.{Refusal}
-use Rattle.judge.specs.Discipline.{permits, kindAt, locksAfter, atomicityOf}
+use Rattle.judge.specs.Discipline.{permits, kindAt, locksAfter}
 use Rattle.judge.specs.Judging.{Judged, isTop, judge}
-use Rattle.judge.specs.LockSet.{holds, same, withLock, withoutLock}
-use Rattle.judge.specs.Rules.{Legal, Typed, typed-done, typed-plain, typed-choice, typed-loop, typed-block, report}
+use Rattle.judge.specs.LockSet.{holds, same}
+use Rattle.judge.specs.Rules.{Typed, typed-done, typed-plain, typed-choice, typed-loop, typed-block, report}
 use Rattle.judge.specs.declared.lock_set.LockSet.{LockSet}
 use Rattle.judge.proofs.Answers.{fine-inj}
 use Rattle.judge.proofs.LockSets.{same-eq, same-self}
@@ -172,6 +173,14 @@ module _ (p : Program) (t : ℕ) where
   judge-report c w d s {r} e =
       let D = judge-typed c w d s e in
       (D, ap (λ (x : Judged). x .report) (fine-inj _ r (sym (typed-judge D d) ∙ e)))
+
+  -- well formed code is judged fine exactly with what a derivation says
+  pub judge-exactly : (c : Code) → WellFormed c → (d : ℕ) (s : LockSet) (r : Judged)
+      → (judge p t d s c ≡ fine r) ↔ ((D : Typed p t s c (r .locks) (r .atomicity)) × (report D ≡ r .report))
+  judge-exactly c w d s r =
+      ( judge-report c w d s
+      , λ h. typed-judge (h .0) d ∙ ap (λ (bytes : List ℕ). fine (record { locks = r .locks; atomicity = r .atomicity; report = bytes })) (h .1)
+      )
 
   -- code has one lock set after it, one atomicity and one report at most
   pub typed-unique : {s s₁ s₂ : LockSet} {c : Code} {a₁ a₂ : Atomicity} (D : Typed p t s c s₁ a₁) (E : Typed p t s c s₂ a₂)

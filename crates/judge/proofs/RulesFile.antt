@@ -1,15 +1,16 @@
 -- A file is accepted exactly where it is sound and its program has a derivation, and then the report is the derivation's (document 01,
 -- "Worthless versions": "acceptance exactly when the rules hold").
 --     sections-nested, sound-nested     a sound file's code is well nested
+--     accept-judged                     an accepted file is a sound one whose program is judged fine
 --     accept-exactly                    an accepted file: its program and its report
 --     accepted-exactly                  a sound file is accepted exactly when a derivation exists
 -- Assumes nothing.
 use Prim.Native.Nat.{ℕ, zero, suc, _+_, _*_}
 use native.Mathlib.Omega.{arith}
-use mathlib.Core.Path.{_≡_, refl, sym, ap, _∙_, subst}
+use mathlib.Core.Path.{_≡_, refl, subst}
 use mathlib.Core.Logic.{_↔_}
-use mathlib.Core.List.{List, []}
-use Rattle.program.specs.Choice.{Answer, fine, refused}
+use mathlib.Core.List.{List}
+use Rattle.program.specs.Choice.{fine}
 use Rattle.program.specs.Layout.{Program, programOf, threadsAt, reading}
 use Rattle.program.specs.Sound.{SoundSections, SoundFile, countAt}
 use Rattle.program.specs.declared.layout.Layout.{Layout}
