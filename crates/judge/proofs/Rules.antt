@@ -177,10 +177,10 @@ module _ (p : Program) (t : ℕ) where
   -- well formed code is judged fine exactly with what a derivation says
   pub judge-exactly : (c : Code) → WellFormed c → (d : ℕ) (s : LockSet) (r : Judged)
       → (judge p t d s c ≡ fine r) ↔ ((D : Typed p t s c (r .locks) (r .atomicity)) × (report D ≡ r .report))
-  judge-exactly c w d s r =
-      ( judge-report c w d s
-      , λ h. typed-judge (h .0) d ∙ ap (λ (bytes : List ℕ). fine (record { locks = r .locks; atomicity = r .atomicity; report = bytes })) (h .1)
-      )
+  judge-exactly c w d s r = (
+    judge-report c w d s,
+    λ h. typed-judge (h .0) d ∙ ap (λ (bytes : List ℕ). fine (record { locks = r .locks; atomicity = r .atomicity; report = bytes })) (h .1),
+  )
 
   -- code has one lock set after it, one atomicity and one report at most
   pub typed-unique : {s s₁ s₂ : LockSet} {c : Code} {a₁ a₂ : Atomicity} (D : Typed p t s c s₁ a₁) (E : Typed p t s c s₂ a₂)

@@ -33,16 +33,16 @@ sections-nested s locks variables (suc n) at m h =
 -- an accepted file is a sound one whose program is judged fine
 pub accept-judged : (s : List ℕ) (a : Accepted) → (accept s ≡ fine a) ↔ ((sound s ≡ fine (a .program)) × (judgeProgram (a .program) ≡ fine (a .report)))
 unfolding accept
-accept-judged s a =
-    ( (λ e.
-        bind-inv (sound s) _ e λ p e₁ f₁.
-        bind-inv (judgeProgram p) _ f₁ λ bytes e₂ f₂.
-        let f : _≡_ {A = Accepted} (record { program = p; report = bytes }) a = fine-inj _ a f₂ in
-        ( subst (λ (x : Accepted). sound s ≡ fine (x .program)) f e₁
-        , subst (λ (x : Accepted). judgeProgram (x .program) ≡ fine (x .report)) f e₂
-        ))
-    , λ h. bind-on (sound s) _ (h .0) (bind-on (judgeProgram (a .program)) _ (h .1) refl)
-    )
+accept-judged s a = (
+  (λ e.
+      bind-inv (sound s) _ e λ p e₁ f₁.
+      bind-inv (judgeProgram p) _ f₁ λ bytes e₂ f₂.
+      let f : _≡_ {A = Accepted} (record { program = p; report = bytes }) a = fine-inj _ a f₂ in (
+        subst (λ (x : Accepted). sound s ≡ fine (x .program)) f e₁,
+        subst (λ (x : Accepted). judgeProgram (x .program) ≡ fine (x .report)) f e₂,
+      )),
+  λ h. bind-on (sound s) _ (h .0) (bind-on (judgeProgram (a .program)) _ (h .1) refl),
+)
 
 module _ (sound-file : (s : List ℕ) (l : Layout) → reading s ≡ Sound l → SoundFile s l) where
   read-nested : (s : List ℕ) (x : Reading) → reading s ≡ x → {p : Program} → programRead s x ≡ fine p → Nested (p .threads)
@@ -61,18 +61,18 @@ module _ (sound-file : (s : List ℕ) (l : Layout) → reading s ≡ Sound l →
   -- an accepted file is a sound one whose program has a derivation, and its report is the derivation's
   pub accept-exactly : (s : List ℕ) (a : Accepted)
       → (accept s ≡ fine a) ↔ ((sound s ≡ fine (a .program)) × (D : TypedProgram (a .program)) × (programReport D ≡ a .report))
-  accept-exactly s a =
-      ( (λ e.
-          let (e₁, e₂) = accept-judged s a .0 e in
-          let (D, reported) = program-exactly (a .program) (sound-nested s e₁) (a .report) .0 e₂ in
-          (e₁, D, reported))
-      , λ h. accept-judged s a .1 (h .0, program-exactly (a .program) (sound-nested s (h .0)) (a .report) .1 (h .1, h .2))
-      )
+  accept-exactly s a = (
+    (λ e.
+        let (e₁, e₂) = accept-judged s a .0 e in
+        let (D, reported) = program-exactly (a .program) (sound-nested s e₁) (a .report) .0 e₂ in
+        (e₁, D, reported)),
+    λ h. accept-judged s a .1 (h .0, program-exactly (a .program) (sound-nested s (h .0)) (a .report) .1 (h .1, h .2)),
+  )
 
   -- a sound file is accepted exactly when a derivation of its program exists
   pub accepted-exactly : (s : List ℕ) (p : Program) → sound s ≡ fine p
       → ((bytes : List ℕ) × (accept s ≡ fine (record { program = p; report = bytes }))) ↔ TypedProgram p
-  accepted-exactly s p e =
-      ( (λ h. accept-exactly s (record { program = p; report = h .0 }) .0 (h .1) .1)
-      , λ D. (programReport D, accept-exactly s (record { program = p; report = programReport D }) .1 (e, D, refl))
-      )
+  accepted-exactly s p e = (
+    (λ h. accept-exactly s (record { program = p; report = h .0 }) .0 (h .1) .1),
+    λ D. (programReport D, accept-exactly s (record { program = p; report = programReport D }) .1 (e, D, refl)),
+  )

@@ -9,7 +9,7 @@ use Prim.Native.Nat.{ℕ, zero, suc, _+_}
 use mathlib.Core.Path.{_≡_, refl, sym, ap, _∙_, subst}
 use mathlib.Core.Logic.{_↔_}
 use mathlib.Core.List.{List, [], _∷_}
-use lib.ListN.{length, getD}
+use lib.ListN.{getD}
 use native.Mathlib.Nat.{add-zero, zero-add, add-suc, suc-add}
 use Rattle.atomicity.specs.declared.Atomicity.the-variants.{Both}
 use Rattle.program.specs.Choice.{Answer, fine}
@@ -29,10 +29,10 @@ use Rattle.judge.proofs.Rules.{bind-inv, require-inv, bind-on, require-
 -- a fine answer gives a derivation, and a derivation a fine answer with its report: then it is fine with just what can be reported
 pub exactly : {A B : Type 0} (x : Answer B) (f : A → B) → ((b : B) → x ≡ fine b → A) → ((a : A) → x ≡ fine (f a))
     → (b : B) → (x ≡ fine b) ↔ ((a : A) × (f a ≡ b))
-exactly {A = A} x f derive answer b =
-    ( (λ e. let a : A = derive b e in (a, fine-inj (f a) b (sym (answer a) ∙ e)))
-    , λ h. answer (h .0) ∙ ap fine (h .1)
-    )
+exactly {A = A} x f derive answer b = (
+  (λ e. let a : A = derive b e in (a, fine-inj (f a) b (sym (answer a) ∙ e))),
+  λ h. answer (h .0) ∙ ap fine (h .1),
+)
 
 module _ (p : Program) where
   -- ---- a thread
@@ -46,10 +46,10 @@ module _ (p : Program) where
       bind-inv (judge p t (section .start) empty c) _ e λ whole e₁ f₁.
       require-inv (same (whole .locks) empty) _ _ f₁ λ e₂ f₂.
       let D = judge-typed p t c (nested-flat (section .code) h .well-formed) (section .start) empty e₁ in
-      record
-        { atomicity = whole .atomicity
-        ; typed = subst (λ (s : LockSet). Typed p t empty c s (whole .atomicity)) (same-eq (whole .locks) empty e₂) D
-        }
+      record {
+        atomicity = whole .atomicity;
+        typed = subst (λ (s : LockSet). Typed p t empty c s (whole .atomicity)) (same-eq (whole .locks) empty e₂) D;
+      }
 
   -- judging a thread makes its derivation's report
   pub thread-judge : (t : ℕ) (section : CodeSection) (T : TypedThread p t (section .code)) → judgeThread p t section ≡ fine (threadReport T)

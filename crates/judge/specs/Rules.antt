@@ -1,7 +1,7 @@
 -- The rules of judging as derivations (source 003, section 3: its figure of rules; document 01, "Lock discipline", "Atomicities").
 -- What judging finds is exactly what these rules derive (`proofs/Rules.antt`); they speak of no offset and of no order of offences.
 --
--- In order: the rules, one for each construct; the report of a derivation; a thread, and a program.
+-- In order: the rules, one for each construct; the report of a derivation; a thread, and a program; what the theorem asks of a program.
 use Prim.Native.Nat.{ℕ, suc}
 use mathlib.Core.Path.{_≡_}
 use mathlib.Core.Logic.{_≢_}
@@ -23,7 +23,8 @@ use Rattle.judge.specs.declared.lock_set.LockSet.{LockSet}
 
 -- ---- the rules
 
--- the instruction keeps the lock discipline, wherever it stands, and leads from the lock set s to s′
+-- the instruction keeps the lock discipline and leads from the lock set s to s′. An offset is named, since an offence has one; which
+-- one does not matter (`locks-anywhere`)
 pub record Legal (p : Program) (t : ℕ) (i : Instruction) (s s′ : LockSet) : Type 0 where
   pub offset : ℕ
   pub judged : locksAfter p t offset i s ≡ fine s′
@@ -35,16 +36,20 @@ pub data Typed (p : Program) (t : ℕ) : LockSet → Code → LockSet → Atomic
   typed-done : {s : LockSet} → Typed p t s done s Both
   -- a plain instruction that keeps the lock discipline
   typed-plain : {i : Instruction} {c : Code} {s s′ s″ : LockSet} {a : Atomicity}
-    → formOf i ≡ Plain → Legal p t i s s′ → Typed p t s′ c s″ a → Typed p t s (plain i c) s″ (composition (atomicityOf p t i) a)
+      → formOf i ≡ Plain → Legal p t i s s′ → Typed p t s′ c s″ a
+      → Typed p t s (plain i c) s″ (composition (atomicityOf p t i) a)
   -- "IF is the join of its two parts"; they "start with the set at the IF and must end with equal sets"
   typed-choice : {r : ℕ} {a b c : Code} {s s′ s″ : LockSet} {x y z : Atomicity}
-    → Typed p t s a s′ x → Typed p t s b s′ y → Typed p t s′ c s″ z → Typed p t s (choice r a b c) s″ (composition (join x y) z)
+      → Typed p t s a s′ x → Typed p t s b s′ y → Typed p t s′ c s″ z
+      → Typed p t s (choice r a b c) s″ (composition (join x y) z)
   -- "WHILE is the closure of its body", which "must end with the set it began with"
   typed-loop : {r : ℕ} {a c : Code} {s s″ : LockSet} {x z : Atomicity}
-    → Typed p t s a s x → Typed p t s c s″ z → Typed p t s (loop r a c) s″ (composition (closure x) z)
+      → Typed p t s a s x → Typed p t s c s″ z
+      → Typed p t s (loop r a c) s″ (composition (closure x) z)
   -- "ATOMIC has its body's atomicity, which must not be T"
   typed-block : {a c : Code} {s s′ s″ : LockSet} {x z : Atomicity}
-    → Typed p t s a s′ x → x ≢ Top → Typed p t s′ c s″ z → Typed p t s (block a c) s″ (composition x z)
+      → Typed p t s a s′ x → x ≢ Top → Typed p t s′ c s″ z
+      → Typed p t s (block a c) s″ (composition x z)
 
 -- ---- the report
 
@@ -71,7 +76,8 @@ threadReport thread = report (thread .typed) ++ reportByte (thread .atomicity) �
 pub data TypedThreads (p : Program) : ℕ → List CodeSection → Type 0 where
   typed-none : {t : ℕ} → TypedThreads p t []
   typed-thread : {t : ℕ} {section : CodeSection} {sections : List CodeSection}
-    → TypedThread p t (section .code) → TypedThreads p (suc t) sections → TypedThreads p t (section ∷ sections)
+      → TypedThread p t (section .code) → TypedThreads p (suc t) sections
+      → TypedThreads p t (section ∷ sections)
 
 unfoldable pub threadsReport : {p : Program} {t : ℕ} {sections : List CodeSection} → TypedThreads p t sections → List ℕ
 threadsReport typed-none = []
@@ -83,6 +89,8 @@ TypedProgram p = TypedThreads p 0 (p .threads)
 
 abbrev pub programReport : {p : Program} → TypedProgram p → List ℕ
 programReport threads = threadsReport threads
+
+-- ---- what the theorem asks of a program
 
 -- every thread's code is well nested, as in a sound file
 unfoldable pub Nested : List CodeSection → Type 0
