@@ -2,6 +2,10 @@
 --     Decode     what a decoded instruction's fields satisfy
 --     Contents   a file's contents by index
 --     Search     the search for the first offence
+--     Stack      the open entries held in an array
+--     Scan       the scan for the first place where nesting is broken
 pub mod Decode
 pub mod Contents
 pub mod Search
+pub mod Stack
+pub mod Scan
