@@ -6,6 +6,7 @@
 --     Scan       the scan for the first place where nesting is broken
 --     Answers    what is known where reading answered a value
 --     Sections   the code sections of the threads
+--     Sound      what a file that is read as sound holds
 pub mod Decode
 pub mod Contents
 pub mod Search
@@ -13,3 +14,4 @@ pub mod Stack
 pub mod Scan
 pub mod Answers
 pub mod Sections
+pub mod Sound

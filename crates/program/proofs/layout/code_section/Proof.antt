@@ -1,3 +1,4 @@
+-- `code_section` meets its contract. Assumes nothing.
 use Prim.Native.Nat.{_+_, _*_, _≤_}
 use mathlib.Core.Path.{sym, ap, _∙_}
 use lib.ListN.{length}
@@ -8,11 +9,6 @@ use Rattle.program.proofs.Answers.{section-value}
 use borrow.Author.Needs.{needs}
 use Rattle.program.proofs.layout.code_section.Statement.{statement}
 use Rattle.program.proofs.layout.code_section.Tie as tie
-use Rattle.program.proofs.layout.code_section.Reads as reads
-use Rattle.program.proofs.layout.code_section.Lts as lts
-use Rattle.program.proofs.cursor.section.Reads as section-reads
-use Rattle.program.proofs.instruction.first_bad_instruction.Reads as first-bad-instruction-reads
-use Rattle.program.proofs.nesting.first_broken.Reads as first-broken-reads
 
 -- the records are inside the file
 fits : (u : tie.After-f) → u .f .given .0 .1 .0 .at + 4 * u .f .given .0 .0 ≤ length (u .before .before .before .before .args .s .now)
