@@ -2,8 +2,13 @@
 --     LockSet     lock sets
 --     Discipline  what an instruction may do, and its atomicity
 --     Judging     the rules over structured code, and the report
+--     Rules       ... as derivations
 --     Acceptance  sound and accepted files
+-- and a second definition, beside the theorem that it agrees:
+--     Scan        judging as one pass over flat code
 pub mod LockSet
 pub mod Discipline
 pub mod Judging
+pub mod Rules
 pub mod Acceptance
+pub mod Scan

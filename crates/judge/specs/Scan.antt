@@ -1,0 +1,163 @@
+-- Judging as one pass over a thread's flat code, with a stack of open frames; what the code of src/ does. A second definition: the
+-- rules are `Judging`'s, and `proofs/Scanning.antt` proves that the two agree.
+use Prim.Native.Nat.{ℕ, suc, _+_, _*_}
+use mathlib.Core.Bool.{Bool, not}
+use mathlib.Core.List.{List, [], _∷_}
+use lib.ListN.{length, set}
+use lib.Dec.{ltb}
+use Rattle.atomicity.specs.Atomicity.{reportByte, composition, join, closure}
+use Rattle.atomicity.specs.declared.Atomicity.{Atomicity}
+use Rattle.atomicity.specs.declared.Atomicity.the-variants.{Both}
+use Rattle.program.specs.Choice.{Answer, fine, refused, _>>=_, _>>_, require, choose}
+use Rattle.program.specs.Instruction.{formOf}
+use Rattle.program.specs.Layout.{Program, CodeSection}
+use Rattle.program.specs.declared.instruction.Form.{Form}
+use Rattle.program.specs.declared.instruction.Form.the-variants as form
+use Rattle.program.specs.declared.instruction.Instruction.{Instruction}
+use Rattle.program.specs.declared.refusal.Refusal.{Refusal}
+use Rattle.program.specs.declared.refusal.Refusal.the-variants.{Nesting, SetsDiffer, NotAtomic}
+use Rattle.judge.specs.Discipline.{locksAfter, atomicityOf}
+use Rattle.judge.specs.Judging.{isTop}
+use Rattle.judge.specs.LockSet.{empty, same}
+use Rattle.judge.specs.declared.frame.Frame.{Frame}
+use Rattle.judge.specs.declared.frame.Part.{Part}
+use Rattle.judge.specs.declared.frame.Part.the-variants.{Whole, Then, Else, Body, Block}
+use Rattle.judge.specs.declared.lock_set.LockSet.{LockSet}
+use Rattle.judge.specs.declared.turn.Step.{Step}
+use Rattle.judge.specs.declared.turn.Step.the-variants.{Pass, Open, Replace, Close, Refuse}
+use Rattle.judge.specs.declared.turn.Turn.{Turn}
+
+-- One instruction, at the lock set s, the atomicity a of what was passed of the innermost part, and that part's frame f
+
+-- an offence
+abbrev pub refusing : Refusal → LockSet → Atomicity → Frame → Turn
+refusing r s a f = record { step = Refuse r; locks = s; sofar = a; frame = f }
+
+-- a plain instruction of atomicity b, by the lock set after it
+abbrev pub passing : Atomicity → LockSet → Atomicity → Frame → Answer LockSet → Turn
+passing b s a f (fine s′) = record { step = Pass (reportByte b); locks = s′; sofar = composition a b; frame = f }
+passing b s a f (refused r) = refusing r s a f
+
+-- an opener, whose byte stands at `at` in the report
+abbrev pub opening : Part → (at : ℕ) → LockSet → Atomicity → Turn
+opening part at s a = record
+  { step = Open
+  ; locks = s
+  ; sofar = Both
+  ; frame = record { part = part; opener = at; locks = s; first = Both; before = a }
+  }
+
+-- a construct of atomicity b ends, and the lock set after it is s
+abbrev pub closing : Atomicity → LockSet → Frame → Turn
+closing b s f = record { step = Close (f .opener) (reportByte b); locks = s; sofar = composition (f .before) b; frame = f }
+
+-- "Both parts of an IF start with the set at the IF"
+unfoldable pub atElse : (d : ℕ) → LockSet → Atomicity → Frame → Turn
+atElse d s a f = elim (f .part)
+  [ Whole ↦ refusing (Nesting d) s a f
+  | Then ↦ record
+      { step = Replace
+      ; locks = f .locks
+      ; sofar = Both
+      ; frame = record { part = Else; opener = f .opener; locks = s; first = a; before = f .before }
+      }
+  | Else ↦ refusing (Nesting d) s a f
+  | Body ↦ refusing (Nesting d) s a f
+  | Block ↦ refusing (Nesting d) s a f
+  ]
+
+-- "A WHILE's body must end with the set it began with"
+unfoldable pub atAgain : (d : ℕ) → LockSet → Atomicity → Frame → Turn
+atAgain d s a f = elim (f .part)
+  [ Whole ↦ refusing (Nesting d) s a f
+  | Then ↦ refusing (Nesting d) s a f
+  | Else ↦ refusing (Nesting d) s a f
+  | Body ↦ choose (same (f .locks) s) (closing (closure a) (f .locks) f) (refusing (SetsDiffer d) s a f)
+  | Block ↦ refusing (Nesting d) s a f
+  ]
+
+-- both parts of an IF "must end with equal sets"; "ATOMIC has its body's atomicity, which must not be T"
+unfoldable pub atEnd : (d : ℕ) → LockSet → Atomicity → Frame → Turn
+atEnd d s a f = elim (f .part)
+  [ Whole ↦ refusing (Nesting d) s a f
+  | Then ↦ refusing (Nesting d) s a f
+  | Else ↦ choose (same (f .locks) s) (closing (join (f .first) a) (f .locks) f) (refusing (SetsDiffer d) s a f)
+  | Body ↦ refusing (Nesting d) s a f
+  | Block ↦ choose (not (isTop a)) (closing a s f) (refusing (NotAtomic d) s a f)
+  ]
+
+-- the instruction i of this form at file offset d of thread t
+unfoldable pub turnBy : Form → Program → (t d at : ℕ) → Instruction → LockSet → Atomicity → Frame → Turn
+turnBy form.Plain p t d at i s a f = passing (atomicityOf p t i) s a f (locksAfter p t d i s)
+turnBy (form.If r n) p t d at i s a f = opening Then at s a
+turnBy (form.Else n) p t d at i s a f = atElse d s a f
+turnBy (form.While r n) p t d at i s a f = opening Body at s a
+turnBy (form.Again n) p t d at i s a f = atAgain d s a f
+turnBy (form.Atomic n) p t d at i s a f = opening Block at s a
+turnBy form.End p t d at i s a f = atEnd d s a f
+
+unfoldable pub turn : Program → (t d at : ℕ) → Instruction → LockSet → Atomicity → Frame → Turn
+turn p t d at i s a f = turnBy (formOf i) p t d at i s a f
+
+-- The scan
+
+-- what it carries: the lock set; the atomicity of what was passed of the innermost part; that part's frame; the frames around it,
+-- innermost first; the report's buffer
+pub record Carried : Type 0 where
+  pub locks : LockSet
+  pub sofar : Atomicity
+  pub inner : Frame
+  pub outer : List Frame
+  pub report : List ℕ
+
+-- "a 17th entry opens"
+abbrev pub frameLimit : ℕ
+frameLimit = 16
+
+abbrev pub closed : (d : ℕ) → Turn → List Frame → List ℕ → Answer Carried
+closed d u [] report = refused (Nesting d)
+closed d u (f ∷ fs) report = fine (record { locks = u .locks; sofar = u .sofar; inner = f; outer = fs; report = report })
+
+-- what is carried on from a turn at file offset d and report index `at`. "0 for ELSE, AGAIN and END; the whole construct's at its
+-- opener"
+unfoldable pub follow : (d at : ℕ) → Carried → Turn → Answer Carried
+follow d at x u = elim (u .step)
+  [ Pass b ↦ fine (record { locks = u .locks; sofar = u .sofar; inner = x .inner; outer = x .outer; report = set (x .report) at b })
+  | Open ↦ choose (ltb (length (x .outer)) frameLimit)
+      (fine (record { locks = u .locks; sofar = u .sofar; inner = u .frame; outer = x .inner ∷ x .outer; report = set (x .report) at 0 }))
+      (refused (Nesting d))
+  | Replace ↦ fine (record { locks = u .locks; sofar = u .sofar; inner = u .frame; outer = x .outer; report = set (x .report) at 0 })
+  | Close opener b ↦ closed d u (x .outer) (set (set (x .report) at 0) opener b)
+  | Refuse r ↦ refused r
+  ]
+
+-- code of thread t whose first instruction has file offset d and its byte at `at` in the report
+unfoldable pub scan : Program → (t d at : ℕ) → Carried → List Instruction → Answer Carried
+scan p t d at x [] = fine x
+scan p t d at x (i ∷ is) = do
+  y ← follow d at x (turn p t d at i (x .locks) (x .sofar) (x .inner))
+  scan p t (d + 4) (suc at) y is
+
+-- what is carried where a thread's code begins
+unfoldable pub wholeFrame : Frame
+wholeFrame = record { part = Whole; opener = 0; locks = empty; first = Both; before = Both }
+
+unfoldable pub starting : List ℕ → Carried
+starting report = record { locks = empty; sofar = Both; inner = wholeFrame; outer = []; report = report }
+
+-- a thread's end: "A thread's code must end with none"; "then a byte for the thread's whole code", at `at`
+unfoldable pub ending : (d at : ℕ) → Carried → Answer (List ℕ)
+ending d at x = require (same (x .locks) empty) (SetsDiffer d) (fine (set (x .report) at (reportByte (x .sofar))))
+
+-- thread t's whole code, its report laid over the buffer from `at` on
+unfoldable pub scanThread : Program → (t at : ℕ) → List ℕ → CodeSection → Answer (List ℕ)
+scanThread p t at report section = do
+  x ← scan p t (section .start) at (starting report) (section .code)
+  ending (section .start + 4 * length (section .code)) (at + length (section .code)) x
+
+-- the threads from t on, their reports laid over the buffer from `at` on
+unfoldable pub scanThreads : Program → (t at : ℕ) → List ℕ → List CodeSection → Answer (List ℕ)
+scanThreads p t at report [] = fine report
+scanThreads p t at report (section ∷ sections) = do
+  report′ ← scanThread p t at report section
+  scanThreads p (suc t) (at + length (section .code) + 1) report′ sections
