@@ -6,6 +6,7 @@
 --     Scan       the scan for the first place where nesting is broken
 --     Answers    what is known where reading answered a value
 --     Sections   the code sections of the threads
+--     Steps      the steps of the definition of reading
 --     Sound      what a file that is read as sound holds
 pub mod Decode
 pub mod Contents
@@ -14,4 +15,5 @@ pub mod Stack
 pub mod Scan
 pub mod Answers
 pub mod Sections
+pub mod Steps
 pub mod Sound

@@ -1,6 +1,8 @@
 // Nesting (document 01, "The file": from "A place is an instruction's index in its thread" on): a scan with a stack of open entries.
 use crate::found::Found;
-use crate::instruction::{form_of, instruction_at, Form};
+use crate::instruction::Form;
+use crate::instruction::form_of;
+use crate::instruction::instruction_at;
 ghost use mathlib.Core.Path.{_≡_};
 ghost use mathlib.Core.Bool.{not};
 ghost use mathlib.Core.List.{List, []};
@@ -95,8 +97,8 @@ fn at_else(p: usize, n: usize, top: Top) -> Turn
         return Turn::Broken;
     };
     match e {
-        Entry::Then(w) => {
-            if w != p {
+        Entry::Then(place) => {
+            if place != p {
                 return Turn::Broken;
             }
             if n == 0 {

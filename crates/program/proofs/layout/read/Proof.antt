@@ -35,9 +35,12 @@ enum-known-f-2 c = search needs
 returns : tie.Need-returns
 unfolding reading
 returns c =
-    rw
-    ( ← c .before .before .before .before .before .before .fields .ensures, c .before .before .before .before .f .given .1
-    , ← c .pair-at .ensures .0, ← c .before .byte-at2 .ensures .0, ← c .before .before .byte-at .ensures .0
+    rw (
+      ← c .before .before .before .before .before .before .fields .ensures,
+      c .before .before .before .before .f .given .1,
+      ← c .pair-at .ensures .0,
+      ← c .before .byte-at2 .ensures .0,
+      ← c .before .before .byte-at .ensures .0,
     )
 
 returns-2 : tie.Need-returns-2
