@@ -4,13 +4,13 @@
 --     sound-file       of a file that is read as sound
 use Prim.Native.Nat.{ℕ, zero, suc, _+_, _*_, _/_, _<_, _≤_}
 use mathlib.Core.Path.{_≡_, refl, sym, _∙_, ap, subst}
-use mathlib.Core.Bool.{Bool, true, _&&_, and-eq-true-iff}
+use mathlib.Core.Bool.{true, _&&_, and-eq-true-iff}
 use mathlib.Core.List.{List}
 use lib.ListN.{length}
 use lib.Dec.{leb, eqb}
 use native.Mathlib.Omega.{arith}
 use borrow.Author.Tests.{leb-true, eqb-true}
-use Rattle.program.specs.Field.{_>>=_, require, byteAt, pairAt, cursor, byteField}
+use Rattle.program.specs.Field.{_>>=_, byteAt, pairAt, cursor, byteField}
 use Rattle.program.specs.Variable.{recordAt}
 use Rattle.program.specs.Variable
 use Rattle.program.specs.Instruction.{decodeAt}
@@ -22,11 +22,11 @@ use Rattle.program.specs.declared.cursor.Field.{Field}
 use Rattle.program.specs.declared.cursor.Field.the-variants.{Value}
 use Rattle.program.specs.declared.cursor.Field.the-variants as field
 use Rattle.program.specs.declared.layout.Layout.{Layout}
-use Rattle.program.specs.declared.layout.Reading.the-variants.{Sound, Refused}
+use Rattle.program.specs.declared.layout.Reading.the-variants.{Sound}
 use Rattle.program.specs.declared.refusal.Refusal.the-variants.{Version, Count, LeftOver}
 use Rattle.program.proofs.Search.{bad-none}
 use Rattle.program.proofs.Steps.{afterSections, afterVariables, afterThreads, afterLocks, afterVersion}
-use Rattle.program.proofs.Answers.{Head, VariablesRead, CodeRead, require-value, bind-value, byte-value, variables-value, code-value}
+use Rattle.program.proofs.Answers.{Head, CodeRead, require-value, bind-value, byte-value, variables-value, code-value}
 
 -- one code section, by its own length field
 section-sound : (locks variables : ℕ) (s : List ℕ) (at : ℕ) (d : Cursor) → CodeRead locks variables s at (countAt s at) d

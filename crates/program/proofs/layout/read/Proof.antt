@@ -3,9 +3,9 @@ use Prim.Native.Nat.{_≤_}
 use mathlib.Core.Path.{sym, _∙_}
 use lib.ListN.{length}
 use native.Mathlib.Omega.{arith}
+use borrow.Author.Needs.{needs}
 use Rattle.program.specs.Layout.{reading}
 use Rattle.program.proofs.Sound.{fields-sound}
-use borrow.Author.Needs.{needs}
 use Rattle.program.proofs.layout.read.Statement.{statement}
 use Rattle.program.proofs.layout.read.Tie as tie
 

@@ -1,11 +1,11 @@
 -- `first_broken`: the rest of the scan from this place, with the entries in the array, equals the whole. Assumes nothing.
-use Prim.Native.Nat.{ℕ, _+_, _-_, _*_, _≤_}
+use Prim.Native.Nat.{_+_, _-_, _≤_}
 use mathlib.Core.Path.{_≡_, refl, sym, _∙_}
 use mathlib.Core.List.{[]}
 use lib.ListN.{length}
 use native.Mathlib.Omega.{arith}
 use borrow.Author.Needs.{needs}
-use Rattle.program.specs.Layout.{instructionsAt, offsetFrom}
+use Rattle.program.specs.Layout.{instructionsAt}
 use Rattle.program.specs.Nesting.{firstBroken, atCodeEnd}
 use Rattle.program.specs.Stack.{entriesOf, entriesAfter, depthAfter, Room}
 use Rattle.program.specs.declared.found.Found.the-variants.{At}
