@@ -95,6 +95,7 @@ fn code_sections(s: &[u8], c: Cursor, n: usize, locks: usize, variables: usize) 
     Field::Value(total, Cursor { at })
 }
 
+// The whole file: three bytes, the variable section, a code section for each thread, and nothing left over.
 fn fields(s: &[u8]) -> Field
     ensures { λ r. ⌜ r ≡ File.fields (now (s .entry)) ⌝ }
 {
