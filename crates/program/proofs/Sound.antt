@@ -2,6 +2,7 @@
 --     sections-sound   the code sections
 --     fields-sound     all fields, front to back
 --     sound-file       of a file that is read as sound
+--     instructions-few at most 1,024 instructions for each thread
 use Prim.Native.Nat.{ℕ, zero, suc, _+_, _*_, _/_, _<_, _≤_}
 use mathlib.Core.Path.{_≡_, refl, sym, _∙_, ap, subst}
 use mathlib.Core.Bool.{true, _&&_, and-eq-true-iff}
@@ -151,3 +152,10 @@ file-sound s l (Value m c) e h =
 pub sound-file : (s : List ℕ) (l : Layout) → reading s ≡ Sound l → SoundFile s l
 unfolding reading
 sound-file s l h = file-sound s l (fields s) refl h
+
+-- at most 1,024 instructions for each thread
+pub instructions-few : (s : List ℕ) (locks variables n at m : ℕ) → SoundSections s locks variables n at m → m ≤ 1024 * n
+instructions-few s locks variables zero at m h = omega (arith, h .1)
+instructions-few s locks variables (suc n) at m h =
+    omega
+    (arith, h .1 .few, h .2, instructions-few s locks variables n (at + 2 + 4 * countAt s at) (h .0) (h .3))
