@@ -88,12 +88,12 @@ pub section-value : (size limit : ℕ) (s : List ℕ) (c : Cursor) (n : ℕ) (fi
 unfolding section present
 section-value size limit s c n first e =
     let b = bind-value (pairField s c)
-            (λ x. require (eqb (x .0 % size) 0 && leb (x .0) limit) (Length (c .at))
-            (require (leb (x .1 .at + x .0) (length s)) (Missing (length s)) (Value (x .0 / size) (x .1)))) n first e in
+    (λ x. require (eqb (x .0 % size) 0 && leb (x .0) limit) (Length (c .at))
+    (require (leb (x .1 .at + x .0) (length s)) (Missing (length s)) (Value (x .0 / size) (x .1)))) n first e in
     let m = b .0 in
     let p = pair-value s c m (b .1) (b .2) in
     let h = require-value (eqb (m % size) 0 && leb m limit) (Length (c .at))
-            (require (leb (b .1 .at + m) (length s)) (Missing (length s)) (Value (m / size) (b .1))) n first (b .3) in
+    (require (leb (b .1 .at + m) (length s)) (Missing (length s)) (Value (m / size) (b .1))) n first (b .3) in
     let g = require-value (leb (b .1 .at + m) (length s)) (Missing (length s)) (Value (m / size) (b .1)) n first (h .1) in
     let t = and-eq-true-iff (eqb (m % size) 0) (leb m limit) .0 (h .0) in
     let values = g .1 in
@@ -101,14 +101,14 @@ section-value size limit s c n first e =
     let first-is : first ≡ b .1 = cc in
     let exact = divided m size n (eqb-true (m % size) 0 (t .0)) n-is in
     let at-is : b .1 .at ≡ c .at + 2 = ap (λ (x : Cursor). x .at) (p .2) in
-    record
-      { field = p .0
-      ; count = n-is ∙ ap (λ (x : ℕ). x / size) (p .1)
-      ; exact = sym (p .1) ∙ exact
-      ; few = omega (arith, leb-true m limit (t .1))
-      ; start = first-is ∙ p .2
-      ; whole = omega (arith, leb-true (b .1 .at + m) (length s) (g .0))
-      }
+    record {
+      field = p .0;
+      count = n-is ∙ ap (λ (x : ℕ). x / size) (p .1);
+      exact = sym (p .1) ∙ exact;
+      few = omega (arith, leb-true m limit (t .1));
+      start = first-is ∙ p .2;
+      whole = omega (arith, leb-true (b .1 .at + m) (length s) (g .0));
+    }
 
 -- the variable section
 pub record VariablesRead (locks threads : ℕ) (s : List ℕ) (at n : ℕ) (d : Cursor) : Type 0 where
@@ -122,18 +122,18 @@ unfolding variableSection
 variables-value locks threads s c n d e =
     let bad : ℕ → ℕ → Found = λ m at. firstBad (λ p. Variable.isValid (recordAt locks threads s p)) 6 m at in
     let b = bind-value (section 6 384 s c)
-            (λ x. requireNone (bad (x .0) (x .1 .at)) Record (Value (x .0) (cursor (x .1 .at + 6 * x .0)))) n d e in
+    (λ x. requireNone (bad (x .0) (x .1 .at)) Record (Value (x .0) (cursor (x .1 .at + 6 * x .0)))) n d e in
     let h = none-value (bad (b .0) (b .1 .at)) Record (Value (b .0) (cursor (b .1 .at + 6 * b .0))) n d (b .3) in
     let g = section-value 6 384 s c (b .0) (b .1) (b .2) in
     let values = h .1 in
     let n-is : b .0 ≡ n = cc in
     let d-is : cursor (b .1 .at + 6 * b .0) ≡ d = cc in
     let at-is : b .1 .at ≡ c .at + 2 = ap (λ (x : Cursor). x .at) (g .start) in
-    record
-      { head = rw (n-is, g .start) at g
-      ; valid = rw (n-is, at-is) at (h .0)
-      ; next = sym (rw (n-is, at-is) at d-is)
-      }
+    record {
+      head = rw (n-is, g .start) at g;
+      valid = rw (n-is, at-is) at (h .0);
+      next = sym (rw (n-is, at-is) at d-is);
+    }
 
 -- a code section
 pub record CodeRead (locks variables : ℕ) (s : List ℕ) (at n : ℕ) (d : Cursor) : Type 0 where
@@ -155,19 +155,19 @@ code-value locks variables s c n d e =
     let cut : ℕ → ℕ → Found = λ m at. firstBroken 0 (instructionsAt locks variables s m at) [] in
     let rest : ℕ → Cursor → Field = λ m f. Value m (cursor (f .at + 4 * m)) in
     let b = bind-value (section 4 4096 s c)
-            (λ x. requireNone (bad (x .0) (x .1 .at)) refusal.Instruction
-            (requireNone (offsetFrom (x .1 .at) (cut (x .0) (x .1 .at))) Nesting (rest (x .0) (x .1)))) n d e in
+    (λ x. requireNone (bad (x .0) (x .1 .at)) refusal.Instruction
+    (requireNone (offsetFrom (x .1 .at) (cut (x .0) (x .1 .at))) Nesting (rest (x .0) (x .1)))) n d e in
     let h = none-value (bad (b .0) (b .1 .at)) refusal.Instruction
-            (requireNone (offsetFrom (b .1 .at) (cut (b .0) (b .1 .at))) Nesting (rest (b .0) (b .1))) n d (b .3) in
+    (requireNone (offsetFrom (b .1 .at) (cut (b .0) (b .1 .at))) Nesting (rest (b .0) (b .1))) n d (b .3) in
     let k = none-value (offsetFrom (b .1 .at) (cut (b .0) (b .1 .at))) Nesting (rest (b .0) (b .1)) n d (h .1) in
     let g = section-value 4 4096 s c (b .0) (b .1) (b .2) in
     let values = k .1 in
     let n-is : b .0 ≡ n = cc in
     let d-is : cursor (b .1 .at + 4 * b .0) ≡ d = cc in
     let at-is : b .1 .at ≡ c .at + 2 = ap (λ (x : Cursor). x .at) (g .start) in
-    record
-      { head = rw (n-is, g .start) at g
-      ; valid = rw (n-is, at-is) at (h .0)
-      ; nested = rw (n-is, at-is) at (offset-nowhere (b .1 .at) (cut (b .0) (b .1 .at)) (k .0))
-      ; next = sym (rw (n-is, at-is) at d-is)
-      }
+    record {
+      head = rw (n-is, g .start) at g;
+      valid = rw (n-is, at-is) at (h .0);
+      nested = rw (n-is, at-is) at (offset-nowhere (b .1 .at) (cut (b .0) (b .1 .at)) (k .0));
+      next = sym (rw (n-is, at-is) at d-is);
+    }

@@ -12,7 +12,6 @@ use Rattle.program.specs.Field.{pairAt}
 use Rattle.program.specs.Instruction.{decodeAt, instructionOf}
 use Rattle.program.specs.Variable.{Variable, variableAt}
 use Rattle.program.specs.Layout.{instructionsAt, variablesAt, threadsAt}
-use Rattle.program.specs.declared.instruction.Instruction.{Instruction}
 use Rattle.program.specs.declared.instruction.Instruction.the-variants.{End}
 
 -- n items from an offset on, `step` bytes apart: what both kinds of sections are

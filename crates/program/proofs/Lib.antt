@@ -1,4 +1,5 @@
 -- Laws that belong to no one function.
+<<<<<<< HEAD
 --     Decode           what a decoded instruction's fields satisfy
 --     Contents         a file's contents by index
 --     Search           the search for the first offence
@@ -13,6 +14,17 @@
 --     StructureParse   ... from the scan to the code
 --     StructureScan    ... from the code to the scan
 --     Jumps            distances lead to places of the code
+=======
+--     Decode     what a decoded instruction's fields satisfy
+--     Contents   a file's contents by index
+--     Search     the search for the first offence
+--     Stack      the open entries held in an array
+--     Scan       the scan for the first place where nesting is broken
+--     Answers    what is known where reading answered a value
+--     Sections   the code sections of the threads
+--     Steps      the steps of the definition of reading
+--     Sound      what a file that is read as sound holds
+>>>>>>> b33731d89e6131b47ea845233af9fd4911062f56
 pub mod Decode
 pub mod Contents
 pub mod Search
@@ -20,6 +32,7 @@ pub mod Stack
 pub mod Scan
 pub mod Answers
 pub mod Sections
+pub mod Steps
 pub mod Sound
 pub mod StructureFlat
 pub mod StructureTurn

@@ -4,9 +4,9 @@
 --     broken-end    the code's end
 --     broken-start  the scan's start
 --     turn-broken, turn-room, turn-goes   the same with the entries in an array
-use Prim.Native.Nat.{ℕ, zero, suc, _+_, _-_, _*_, _<_, _≤_}
-use mathlib.Core.Path.{_≡_, refl, sym, ap, _∙_}
-use mathlib.Core.List.{List, [], _∷_}
+use Prim.Native.Nat.{ℕ, suc, _+_, _-_, _*_, _<_, _≤_}
+use mathlib.Core.Path.{_≡_, sym, ap, _∙_}
+use mathlib.Core.List.{List, []}
 use lib.ListN.{length}
 use native.Mathlib.Numerals.{add-one}
 use native.Mathlib.Omega.{arith}
@@ -15,7 +15,7 @@ use Rattle.program.specs.Layout.{instructionsAt}
 use Rattle.program.specs.Nesting.{Nested, broken, opened, nest, firstBroken, atCodeEnd}
 use Rattle.program.specs.declared.found.Found.{Found}
 use Rattle.program.specs.declared.found.Found.the-variants.{At}
-use Rattle.program.specs.Stack.{entriesOf, entriesAfter, depthAfter, under, turned, Room, RoomOf, Right}
+use Rattle.program.specs.Stack.{entriesOf, entriesAfter, depthAfter, under, turned, Room, Right}
 use Rattle.program.specs.declared.instruction.Form.{Form}
 use Rattle.program.specs.declared.instruction.Instruction.{Instruction}
 use Rattle.program.specs.declared.nesting.Entry.{Entry}

@@ -2,15 +2,16 @@
 --     sections-sound   the code sections
 --     fields-sound     all fields, front to back
 --     sound-file       of a file that is read as sound
+--     instructions-few at most 1,024 instructions for each thread
 use Prim.Native.Nat.{ℕ, zero, suc, _+_, _*_, _/_, _<_, _≤_}
 use mathlib.Core.Path.{_≡_, refl, sym, _∙_, ap, subst}
-use mathlib.Core.Bool.{Bool, true, _&&_, and-eq-true-iff}
+use mathlib.Core.Bool.{true, _&&_, and-eq-true-iff}
 use mathlib.Core.List.{List}
 use lib.ListN.{length}
 use lib.Dec.{leb, eqb}
 use native.Mathlib.Omega.{arith}
 use borrow.Author.Tests.{leb-true, eqb-true}
-use Rattle.program.specs.Field.{_>>=_, require, byteAt, pairAt, cursor, byteField}
+use Rattle.program.specs.Field.{_>>=_, byteAt, pairAt, cursor, byteField}
 use Rattle.program.specs.Variable.{recordAt}
 use Rattle.program.specs.Variable
 use Rattle.program.specs.Instruction.{decodeAt}
@@ -22,22 +23,23 @@ use Rattle.program.specs.declared.cursor.Field.{Field}
 use Rattle.program.specs.declared.cursor.Field.the-variants.{Value}
 use Rattle.program.specs.declared.cursor.Field.the-variants as field
 use Rattle.program.specs.declared.layout.Layout.{Layout}
-use Rattle.program.specs.declared.layout.Reading.the-variants.{Sound, Refused}
+use Rattle.program.specs.declared.layout.Reading.the-variants.{Sound}
 use Rattle.program.specs.declared.refusal.Refusal.the-variants.{Version, Count, LeftOver}
 use Rattle.program.proofs.Search.{bad-none}
-use Rattle.program.proofs.Answers.{Head, VariablesRead, CodeRead, require-value, bind-value, byte-value, variables-value, code-value}
+use Rattle.program.proofs.Steps.{afterSections, afterVariables, afterThreads, afterLocks, afterVersion}
+use Rattle.program.proofs.Answers.{Head, CodeRead, require-value, bind-value, byte-value, variables-value, code-value}
 
 -- one code section, by its own length field
 section-sound : (locks variables : ℕ) (s : List ℕ) (at : ℕ) (d : Cursor) → CodeRead locks variables s at (countAt s at) d
     → SoundSection s locks variables at
-section-sound locks variables s at d r = record
-  { head = r .head .field
-  ; exact = r .head .exact
-  ; few = omega (arith, r .head .few)
-  ; whole = r .head .whole
-  ; valid = bad-none (λ p. Instruction.isValid (decodeAt locks variables s p)) 4 (countAt s at) (at + 2) (r .valid)
-  ; nested = r .nested
-  }
+section-sound locks variables s at d r = record {
+  head = r .head .field;
+  exact = r .head .exact;
+  few = omega (arith, r .head .few);
+  whole = r .head .whole;
+  valid = bad-none (λ p. Instruction.isValid (decodeAt locks variables s p)) 4 (countAt s at) (at + 2) (r .valid);
+  nested = r .nested;
+}
 
 -- the code sections that end at the file's end
 pub sections-sound : (locks variables : ℕ) (s : List ℕ) (n : ℕ) (c : Cursor) (m : ℕ) (e : Cursor)
@@ -59,29 +61,12 @@ sections-sound locks variables s (suc n) c m e h l =
     let end : g .1 .at ≡ length s = ap (λ (x : Cursor). x .at) e-is ∙ l in
     let rest = sections-sound locks variables s n (b .1) (g .0) (g .1) (g .2) end in
     let next : b .1 .at ≡ c .at + 2 + 4 * countAt s (c .at) =
-        ap (λ (x : Cursor). x .at) (r .next) ∙ ap (λ (x : ℕ). c .at + 2 + 4 * x) count in
-    ( g .0
-    , section-sound locks variables s (c .at) (b .1) (rw count at r)
-    , sym m-is ∙ ap (λ (x : ℕ). x + g .0) count
-    , rw next at rest)
-
--- The steps of `fields`, from its end: what follows the code sections, the variable section, and each of the three bytes.
-module _ (s : List ℕ) where
-  abbrev afterSections : ℕ × Cursor → Field
-  afterSections x = require (eqb (x .1 .at) (length s)) (LeftOver (x .1 .at)) (Value (x .0) (x .1))
-
-  abbrev afterVariables : (locks threads : ℕ) → ℕ × Cursor → Field
-  afterVariables locks threads x = codeSections locks (x .0) s threads (x .1) >>= afterSections
-
-  abbrev afterThreads : (locks : ℕ) → ℕ × Cursor → Field
-  afterThreads locks x =
-      require (leb 1 (x .0) && leb (x .0) 8) (Count 2) (variableSection locks (x .0) s (x .1) >>= afterVariables locks (x .0))
-
-  abbrev afterLocks : ℕ × Cursor → Field
-  afterLocks x = require (leb (x .0) 16) (Count 1) (byteField s (x .1) >>= afterThreads (x .0))
-
-  abbrev afterVersion : ℕ × Cursor → Field
-  afterVersion x = require (eqb (x .0) 1) (Version 0) (byteField s (x .1) >>= afterLocks)
+    ap (λ (x : Cursor). x .at) (r .next) ∙ ap (λ (x : ℕ). c .at + 2 + 4 * x) count in (
+      g .0,
+      section-sound locks variables s (c .at) (b .1) (rw count at r),
+      sym m-is ∙ ap (λ (x : ℕ). x + g .0) count,
+      rw next at rest,
+    )
 
 -- what the fields say, by the numbers that were read
 pub record FieldsRead (s : List ℕ) (locks threads variables m : ℕ) : Type 0 where
@@ -97,7 +82,7 @@ threads-sound : (s : List ℕ) (locks threads m : ℕ) (e : Cursor) → locks �
     → (variables : ℕ) × FieldsRead s locks threads variables m
 threads-sound s locks threads m e k h =
     let a = require-value (leb 1 threads && leb threads 8) (Count 2)
-            (variableSection locks threads s (cursor 3) >>= afterVariables s locks threads) m e h in
+    (variableSection locks threads s (cursor 3) >>= afterVariables s locks threads) m e h in
     let t = and-eq-true-iff (leb 1 threads) (leb threads 8) .0 (a .0) in
     let b = bind-value (variableSection locks threads s (cursor 3)) (afterVariables s locks threads) m e (a .1) in
     let v = variables-value locks threads s (cursor 3) (b .0) (b .1) (b .2) in
@@ -106,16 +91,17 @@ threads-sound s locks threads m e k h =
     let values = z .1 in
     let m-is : g .0 ≡ m = cc in
     let end = eqb-true (g .1 .at) (length s) (z .0) in
-    let next : b .1 .at ≡ 5 + 6 * b .0 = ap (λ (x : Cursor). x .at) (v .next) in
-    ( b .0
-    , record
-      { few-locks = k
-      ; some-thread = leb-true 1 threads (t .0)
-      ; few-threads = leb-true threads 8 (t .1)
-      ; section = v .head
-      ; records = bad-none (λ p. Variable.isValid (recordAt locks threads s p)) 6 (b .0) 5 (v .valid)
-      ; sections = rw (next, m-is) at (sections-sound locks (b .0) s threads (b .1) (g .0) (g .1) (g .2) end)
-      })
+    let next : b .1 .at ≡ 5 + 6 * b .0 = ap (λ (x : Cursor). x .at) (v .next) in (
+      b .0,
+      record {
+        few-locks = k;
+        some-thread = leb-true 1 threads (t .0);
+        few-threads = leb-true threads 8 (t .1);
+        section = v .head;
+        records = bad-none (λ p. Variable.isValid (recordAt locks threads s p)) 6 (b .0) 5 (v .valid);
+        sections = rw (next, m-is) at (sections-sound locks (b .0) s threads (b .1) (g .0) (g .1) (g .2) end);
+      },
+    )
 
 -- all fields, front to back
 pub fields-sound : (s : List ℕ) (m : ℕ) (e : Cursor) → fields s ≡ Value m e
@@ -133,9 +119,10 @@ fields-sound s m e h =
     let few = leb-true (byteAt s 1) 16 (rw (q .1) at (f .0)) in
     let g = bind-value (byteField s (cursor 2)) (afterThreads s (byteAt s 1)) m e (rw (at2, q .1) at (f .1)) in
     let r = byte-value s (cursor 2) (g .0) (g .1) (g .2) in
-    let at3 : g .1 ≡ cursor 3 = r .2 in
-    ( sym (p .1) ∙ eqb-true (a .0) 1 (b .0)
-    , threads-sound s (byteAt s 1) (byteAt s 2) m e few (rw (at3, r .1) at (g .3)))
+    let at3 : g .1 ≡ cursor 3 = r .2 in (
+      sym (p .1) ∙ eqb-true (a .0) 1 (b .0),
+      threads-sound s (byteAt s 1) (byteAt s 2) m e few (rw (at3, r .1) at (g .3)),
+    )
 
 -- the layout by which every section is found
 file-sound : (s : List ℕ) (l : Layout) (f : Field) → fields s ≡ f → readingOf s f ≡ Sound l → SoundFile s l
@@ -147,21 +134,28 @@ file-sound s l (Value m c) e h =
     let r : FieldsRead s (byteAt s 1) (byteAt s 2) n m = rw count at (all .1 .1) in
     let l-is : record { locks = byteAt s 1; threads = byteAt s 2; variables = n; instructions = m } ≡ l = cc in
     subst (SoundFile s) l-is
-    (record
-      { version = all .0
-      ; lock-count = refl
-      ; thread-count = refl
-      ; variable-count = r .section .exact
-      ; locks = r .few-locks
-      ; some-thread = r .some-thread
-      ; threads = r .few-threads
-      ; variables = omega (arith, r .section .few)
-      ; section = omega (arith, r .section .whole)
-      ; records = r .records
-      ; sections = r .sections
-      })
+    (record {
+      version = all .0;
+      lock-count = refl;
+      thread-count = refl;
+      variable-count = r .section .exact;
+      locks = r .few-locks;
+      some-thread = r .some-thread;
+      threads = r .few-threads;
+      variables = omega (arith, r .section .few);
+      section = omega (arith, r .section .whole);
+      records = r .records;
+      sections = r .sections;
+    })
 
 -- of a file that is read as sound
 pub sound-file : (s : List ℕ) (l : Layout) → reading s ≡ Sound l → SoundFile s l
 unfolding reading
 sound-file s l h = file-sound s l (fields s) refl h
+
+-- at most 1,024 instructions for each thread
+pub instructions-few : (s : List ℕ) (locks variables n at m : ℕ) → SoundSections s locks variables n at m → m ≤ 1024 * n
+instructions-few s locks variables zero at m h = omega (arith, h .1)
+instructions-few s locks variables (suc n) at m h =
+    omega
+    (arith, h .1 .few, h .2, instructions-few s locks variables n (at + 2 + 4 * countAt s at) (h .0) (h .3))

@@ -152,7 +152,13 @@ pub fn form_of(i: Instruction) -> Form
 }
 
 // The first of n instructions from an offset on that is not valid.
-pub fn first_bad_instruction(s: &[u8], start: usize, n: usize, locks: usize, variables: usize) -> Found
+pub fn first_bad_instruction(
+    s: &[u8],
+    start: usize,
+    n: usize,
+    locks: usize,
+    variables: usize,
+) -> Found
     requires { ⌜ start + 4 * n ≤ length (now s) ⌝ }
     ensures { λ r. ⌜ r ≡ firstBad (λ p. Table.isValid (decodeAt locks variables (now (s .entry)) p)) 4 n start ⌝ }
 {

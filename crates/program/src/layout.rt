@@ -1,6 +1,11 @@
 // Reading the whole file, front to back (document 01, "The file"; "Who can bring a number about": the sender's part). The first
 // offence decides.
-use crate::cursor::{byte_at, byte_field, pair_at, section, Cursor, Field};
+use crate::cursor::Cursor;
+use crate::cursor::Field;
+use crate::cursor::byte_at;
+use crate::cursor::byte_field;
+use crate::cursor::pair_at;
+use crate::cursor::section;
 use crate::found::Found;
 use crate::instruction::first_bad_instruction;
 use crate::nesting::first_broken;
@@ -90,6 +95,7 @@ fn code_sections(s: &[u8], c: Cursor, n: usize, locks: usize, variables: usize) 
     Field::Value(total, Cursor { at })
 }
 
+// The whole file: three bytes, the variable section, a code section for each thread, and nothing left over.
 fn fields(s: &[u8]) -> Field
     ensures { λ r. ⌜ r ≡ File.fields (now (s .entry)) ⌝ }
 {

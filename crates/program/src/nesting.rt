@@ -1,6 +1,8 @@
 // Nesting (document 01, "The file": from "A place is an instruction's index in its thread" on): a scan with a stack of open entries.
 use crate::found::Found;
-use crate::instruction::{form_of, instruction_at, Form};
+use crate::instruction::Form;
+use crate::instruction::form_of;
+use crate::instruction::instruction_at;
 ghost use mathlib.Core.Path.{_≡_};
 ghost use mathlib.Core.Bool.{not};
 ghost use mathlib.Core.List.{List, []};
@@ -37,11 +39,13 @@ pub enum Change {
     Pop,
 }
 
+// Nesting is broken at an instruction, or it goes on.
 pub enum Turn {
     Broken,
     Goes(Change),
 }
 
+// The place that an entry names.
 fn named(e: Entry) -> usize
     ensures { λ r. ⌜ r ≡ Nesting.named e ⌝ }
 {
@@ -63,6 +67,7 @@ fn is_named(p: usize, top: Top) -> bool
     }
 }
 
+// IF, WHILE and ATOMIC: "another instruction stands at the innermost named place", "a distance is 0", "a 17th entry opens".
 fn at_opener(p: usize, n: usize, e: Entry, top: Top, depth: usize) -> Turn
     ensures { λ r. ⌜ ((below : List Entry) → length (under top below) ≡ depth → Right r top below (opening p n e (under top below))) ⌝ }
 {
@@ -78,6 +83,7 @@ fn at_opener(p: usize, n: usize, e: Entry, top: Top, depth: usize) -> Turn
     Turn::Broken
 }
 
+// An instruction that neither opens nor closes.
 fn at_plain(p: usize, top: Top) -> Turn
     ensures { λ r. ⌜ ((below : List Entry) → Right r top below (passing p (under top below))) ⌝ }
 {
@@ -87,6 +93,7 @@ fn at_plain(p: usize, top: Top) -> Turn
     Turn::Goes(Change::Keep)
 }
 
+// "ELSE must stand at the place its IF named and puts the place of its END there instead."
 fn at_else(p: usize, n: usize, top: Top) -> Turn
     requires { ⌜ (p < 2 ^ 62) × (n < 2 ^ 62) ⌝ }
     ensures { λ r. ⌜ ((below : List Entry) → Right r top below (atElse p n (under top below))) ⌝ }
@@ -95,8 +102,8 @@ fn at_else(p: usize, n: usize, top: Top) -> Turn
         return Turn::Broken;
     };
     match e {
-        Entry::Then(w) => {
-            if w != p {
+        Entry::Then(place) => {
+            if place != p {
                 return Turn::Broken;
             }
             if n == 0 {
@@ -110,6 +117,7 @@ fn at_else(p: usize, n: usize, top: Top) -> Turn
     }
 }
 
+// "AGAIN's n differs from its WHILE's".
 fn at_again(p: usize, n: usize, top: Top) -> Turn
     ensures { λ r. ⌜ ((below : List Entry) → Right r top below (atAgain p n (under top below))) ⌝ }
 {
@@ -135,6 +143,7 @@ fn at_again(p: usize, n: usize, top: Top) -> Turn
     }
 }
 
+// The closer of an ELSE or an ATOMIC.
 fn at_end(p: usize, top: Top) -> Turn
     ensures { λ r. ⌜ ((below : List Entry) → Right r top below (atEnd p (under top below))) ⌝ }
 {
@@ -201,6 +210,7 @@ fn innermost(entries: [Entry; 16], depth: usize) -> Top
     Top::Holds(entries[depth - 1])
 }
 
+// The array and the depth after a change.
 fn entries_after(entries: [Entry; 16], depth: usize, ch: Change) -> [Entry; 16]
     requires { ⌜ (depth ≤ 16) × Room ch depth ⌝ }
     ensures { λ r. ⌜ r ≡ entriesAfter ch depth entries ⌝ }
@@ -232,7 +242,7 @@ fn depth_after(depth: usize, ch: Change) -> usize
     }
 }
 
-// Where nesting is first broken, as an offset.
+// Where nesting is first broken, as an offset: that of the instruction, or the section's end if an entry is open there.
 pub fn first_broken(s: &[u8], start: usize, n: usize, locks: usize, variables: usize) -> Found
     requires { ⌜ start + 4 * n ≤ length (now s) ⌝ }
     ensures { λ r. ⌜ r ≡ offsetFrom start (firstBroken 0 (instructionsAt locks variables (now (s .entry)) n start) []) ⌝ }

@@ -38,16 +38,26 @@ div-t14 c = search needs
 returns-4 : tie.Need-returns-4
 unfolding section present
 returns-4 c =
-    rw
-    (← c .before .before .before .before .before .before .before .pair-field .ensures, c .before .before .before .before .before .f .given .1, eq-eqb _ _ (c .before .before .before .if1 .left), le-leb _ _ (c .before .before .if2 .left)
-    , ← c .before .has-bytes .ensures, c .if3 .taken)
+    rw (
+      ← c .before .before .before .before .before .before .before .pair-field .ensures,
+      c .before .before .before .before .before .f .given .1,
+      eq-eqb _ _ (c .before .before .before .if1 .left),
+      le-leb _ _ (c .before .before .if2 .left),
+      ← c .before .has-bytes .ensures,
+      c .if3 .taken,
+    )
 
 returns-5 : tie.Need-returns-5
 unfolding section present
 returns-5 c =
-    rw
-    (← c .before .before .before .before .before .before .before .pair-field .ensures, c .before .before .before .before .before .f .given .1, eq-eqb _ _ (c .before .before .before .if1 .left), le-leb _ _ (c .before .before .if2 .left)
-    , ← c .before .has-bytes .ensures, c .if3 .left)
+    rw (
+      ← c .before .before .before .before .before .before .before .pair-field .ensures,
+      c .before .before .before .before .before .f .given .1,
+      eq-eqb _ _ (c .before .before .before .if1 .left),
+      le-leb _ _ (c .before .before .if2 .left),
+      ← c .before .has-bytes .ensures,
+      c .if3 .left,
+    )
 
 pub section-spec : {M : Type 1} → statement M
 section-spec =

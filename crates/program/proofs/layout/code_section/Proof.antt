@@ -3,10 +3,10 @@ use Prim.Native.Nat.{_+_, _*_, _≤_}
 use mathlib.Core.Path.{sym, ap, _∙_}
 use lib.ListN.{length}
 use native.Mathlib.Omega.{arith}
+use borrow.Author.Needs.{needs}
 use Rattle.program.specs.Layout.{codeSection}
 use Rattle.program.specs.declared.cursor.Cursor.{Cursor}
 use Rattle.program.proofs.Answers.{section-value}
-use borrow.Author.Needs.{needs}
 use Rattle.program.proofs.layout.code_section.Statement.{statement}
 use Rattle.program.proofs.layout.code_section.Tie as tie
 
@@ -61,16 +61,26 @@ add-t17 c = omega (arith, fits (c .before .before .before .before .before .befor
 returns-3 : tie.Need-returns-3
 unfolding codeSection
 returns-3 c =
-    rw
-    (← c .before .before .before .before .before .before .before .before .before .before .section .ensures, c .before .before .before .before .before .before .before .before .f .given .1, ← c .before .before .before .before .before .before .first-bad-instruction .ensures, c .before .before .before .before .enum-told2 .given .1
-    , ← c .before .before .before .first-broken .ensures, c .before .broken .given .1)
+    rw (
+      ← c .before .before .before .before .before .before .before .before .before .before .section .ensures,
+      c .before .before .before .before .before .before .before .before .f .given .1,
+      ← c .before .before .before .before .before .before .first-bad-instruction .ensures,
+      c .before .before .before .before .enum-told2 .given .1,
+      ← c .before .before .before .first-broken .ensures,
+      c .before .broken .given .1,
+    )
 
 returns-4 : tie.Need-returns-4
 unfolding codeSection
 returns-4 c =
-    rw
-    (← c .before .before .before .before .before .before .before .before .before .section .ensures, c .before .before .before .before .before .before .before .f .given .1, ← c .before .before .before .before .before .first-bad-instruction .ensures, c .before .before .before .enum-told2 .given .1
-    , ← c .before .before .first-broken .ensures, c .enum-told3 .given .1)
+    rw (
+      ← c .before .before .before .before .before .before .before .before .before .section .ensures,
+      c .before .before .before .before .before .before .before .f .given .1,
+      ← c .before .before .before .before .before .first-bad-instruction .ensures,
+      c .before .before .before .enum-told2 .given .1,
+      ← c .before .before .first-broken .ensures,
+      c .enum-told3 .given .1,
+    )
 
 pub code-section-spec : {M : Type 1} → statement M
 code-section-spec =

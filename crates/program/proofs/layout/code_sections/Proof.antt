@@ -1,5 +1,5 @@
 -- `code_sections`: what is added so far with the sections that are left equals the whole. Assumes nothing.
-use Prim.Native.Nat.{ℕ, _+_, _*_, _≤_}
+use Prim.Native.Nat.{_+_, _*_, _≤_}
 use mathlib.Core.Path.{_≡_, sym, _∙_}
 use native.Mathlib.Omega.{arith}
 use borrow.Author.Needs.{needs}
@@ -51,7 +51,7 @@ returns c =
     let r = c .enum-told .given .1 in
     r
     ∙ (sym (added-refused (a .locks) (a .variables) (a .s .now) (l .total) (l .left) (cursor (l .at)) (c .enum-told .given .0 .0)
-      (c .before .before .before .loop-test .taken) (sym (c .before .before .code-section .ensures) ∙ r))
+    (c .before .before .before .loop-test .taken) (sym (c .before .before .code-section .ensures) ∙ r))
     ∙ l .inv .1)
 
 sub-left : tie.Need-sub-left Inv-loop μ-loop
@@ -67,11 +67,12 @@ loop-again : tie.Need-loop-again Inv-loop μ-loop
 loop-again c =
     let a = c .before .before .before .before .before .before .before .args in
     let l = c .before .before .before .before .before .loop in
-    let f = c .before .f .given in
-    ( omega (arith, small (c .before))
-    , sym (added-next (a .locks) (a .variables) (a .s .now) (l .total) (l .left) (cursor (l .at)) (f .0 .0) (f .0 .1 .0)
-      (c .before .before .before .before .loop-test .taken) (read (c .before)))
-      ∙ l .inv .1)
+    let f = c .before .f .given in (
+      omega (arith, small (c .before)),
+      sym (added-next (a .locks) (a .variables) (a .s .now) (l .total) (l .left) (cursor (l .at)) (f .0 .0) (f .0 .1 .0)
+          (c .before .before .before .before .loop-test .taken) (read (c .before)))
+          ∙ l .inv .1,
+    )
 
 returns-2 : tie.Need-returns-2 Inv-loop μ-loop
 returns-2 c =

@@ -1,9 +1,37 @@
--- `fields` meets its contract. Assumes nothing.
-use Rattle.program.specs.Layout.{fields}
-use borrow.Author.Tests.{eq-eqb, ne-eqb, le-leb, lt-leb}
+-- `fields`: at each place, what is left of the definition. Assumes nothing.
+use mathlib.Core.Path.{_≡_, _∙_}
 use borrow.Author.Needs.{needs}
+use borrow.Author.Tests.{eq-eqb, ne-eqb, le-leb, lt-leb}
+use Rattle.program.specs.Field.{_>>=_, byteField}
+use Rattle.program.specs.Layout.{fields, variableSection, codeSections}
+use Rattle.program.proofs.Steps.{afterSections, afterVariables, afterThreads, afterLocks}
 use Rattle.program.proofs.layout.fields.Statement.{statement}
 use Rattle.program.proofs.layout.fields.Tie as tie
+
+to-locks : (u : tie.Else1) → fields (u .before .before .before .before .before .before .args .s .now) ≡ (byteField (u .before .before .before .before .before .before .args .s .now) (u .before .before .f .given .0 .1 .0) >>= afterLocks (u .before .before .before .before .before .before .args .s .now))
+unfolding fields
+to-locks u =
+    rw (← u .before .before .before .before .byte-field .ensures, u .before .before .f .given .1, eq-eqb _ _ (u .if1 .left))
+
+to-threads : (u : tie.Else2) → fields (u .before .before .before .before .before .before .before .before .before .before .before .args .s .now) ≡ (byteField (u .before .before .before .before .before .before .before .before .before .before .before .args .s .now) (u .before .before .f2 .given .0 .1 .0) >>= afterThreads (u .before .before .before .before .before .before .before .before .before .before .before .args .s .now) (u .before .before .f2 .given .0 .0))
+to-threads u =
+    to-locks (u .before .before .before .before .before)
+    ∙ rw (← u .before .before .before .before .byte-field2 .ensures, u .before .before .f2 .given .1, le-leb _ _ (u .if2 .left))
+
+to-variables : (u : tie.Else4) → fields (u .before .before .before .before .before .before .before .before .before .before .before .before .before .before .before .before .before .args .s .now) ≡
+    (variableSection (u .before .before .before .before .before .before .before .before .f2 .given .0 .0) (u .before .before .before .f3 .given .0 .0) (u .before .before .before .before .before .before .before .before .before .before .before .before .before .before .before .before .before .args .s .now) (u .before .before .before .f3 .given .0 .1 .0) >>= afterVariables (u .before .before .before .before .before .before .before .before .before .before .before .before .before .before .before .before .before .args .s .now) (u .before .before .before .before .before .before .before .before .f2 .given .0 .0) (u .before .before .before .f3 .given .0 .0))
+to-variables u =
+    to-threads (u .before .before .before .before .before .before)
+    ∙ rw (← u .before .before .before .before .before .byte-field3 .ensures, u .before .before .before .f3 .given .1, le-leb _ _ (u .before .if3 .left), le-leb _ _ (u .if4 .left))
+
+to-sections : (u : tie.After-known-told4) → fields (u .before .before .before .before .before .before .before .before .before .before .before .before .before .before .before .before .before .before .before .before .before .args .s .now) ≡
+    (codeSections (u .before .before .before .before .before .before .before .before .before .before .before .before .f2 .given .0 .0) (u .before .f4 .given .0 .0) (u .before .before .before .before .before .before .before .before .before .before .before .before .before .before .before .before .before .before .before .before .before .args .s .now) (u .before .before .before .before .before .before .before .f3 .given .0 .0) (u .before .f4 .given .0 .1 .0) >>= afterSections (u .before .before .before .before .before .before .before .before .before .before .before .before .before .before .before .before .before .before .before .before .before .args .s .now))
+to-sections u =
+    to-variables (u .before .before .before .before) ∙ rw (← u .before .before .before .variable-section .ensures, u .before .f4 .given .1)
+
+to-end : (u : tie.After-known-told5) → fields (u .before .before .before .before .before .before .before .before .before .before .before .before .before .before .before .before .before .before .before .before .before .before .before .before .before .args .s .now) ≡ afterSections (u .before .before .before .before .before .before .before .before .before .before .before .before .before .before .before .before .before .before .before .before .before .before .before .before .before .args .s .now) (u .before .f5 .given .0 .0, u .before .f5 .given .0 .1 .0)
+to-end u =
+    to-sections (u .before .before .before .before) ∙ rw (← u .before .before .before .code-sections .ensures, u .before .f5 .given .1)
 
 byte-field-requires : tie.Need-byte-field-requires
 byte-field-requires c κs = search needs
@@ -16,20 +44,11 @@ enum-told c = search needs
 
 returns : tie.Need-returns
 unfolding fields
-returns c =
-    rw
-    ( ← c .before .before .byte-field .ensures
-    , c .enum-told .given .1
-    )
+returns c = rw (← c .before .before .byte-field .ensures, c .enum-told .given .1)
 
 returns-2 : tie.Need-returns-2
 unfolding fields
-returns-2 c =
-    rw
-    ( ← c .before .before .before .before .byte-field .ensures
-    , c .before .before .f .given .1
-    , ne-eqb _ _ (c .if1 .taken)
-    )
+returns-2 c = rw (← c .before .before .before .before .byte-field .ensures, c .before .before .f .given .1, ne-eqb _ _ (c .if1 .taken))
 
 byte-field-requires-2 : tie.Need-byte-field-requires-2
 byte-field-requires-2 c κs = search needs
@@ -41,27 +60,10 @@ enum-told-2 : tie.Need-enum-told-2
 enum-told-2 c = search needs
 
 returns-3 : tie.Need-returns-3
-unfolding fields
-returns-3 c =
-    rw
-    ( ← c .before .before .before .before .before .before .before .byte-field .ensures
-    , c .before .before .before .before .before .f .given .1
-    , eq-eqb _ _ (c .before .before .before .if1 .left)
-    , ← c .before .before .byte-field2 .ensures
-    , c .enum-told2 .given .1
-    )
+returns-3 c = rw (to-locks (c .before .before .before), ← c .before .before .byte-field2 .ensures, c .enum-told2 .given .1)
 
 returns-4 : tie.Need-returns-4
-unfolding fields
-returns-4 c =
-    rw
-    ( ← c .before .before .before .before .before .before .before .before .before .byte-field .ensures
-    , c .before .before .before .before .before .before .before .f .given .1
-    , eq-eqb _ _ (c .before .before .before .before .before .if1 .left)
-    , ← c .before .before .before .before .byte-field2 .ensures
-    , c .before .before .f2 .given .1
-    , lt-leb _ _ (c .if2 .taken)
-    )
+returns-4 c = rw (to-locks (c .before .before .before .before .before), ← c .before .before .before .before .byte-field2 .ensures, c .before .before .f2 .given .1, lt-leb _ _ (c .if2 .taken))
 
 byte-field-requires-3 : tie.Need-byte-field-requires-3
 byte-field-requires-3 c κs = search needs
@@ -73,48 +75,19 @@ enum-told-3 : tie.Need-enum-told-3
 enum-told-3 c = search needs
 
 returns-5 : tie.Need-returns-5
-unfolding fields
-returns-5 c =
-    rw
-    ( ← c .before .before .before .before .before .before .before .before .before .before .before .before .byte-field .ensures
-    , c .before .before .before .before .before .before .before .before .before .before .f .given .1
-    , eq-eqb _ _ (c .before .before .before .before .before .before .before .before .if1 .left)
-    , ← c .before .before .before .before .before .before .before .byte-field2 .ensures
-    , c .before .before .before .before .before .f2 .given .1
-    , le-leb _ _ (c .before .before .before .if2 .left)
-    , ← c .before .before .byte-field3 .ensures
-    , c .enum-told3 .given .1
-    )
+returns-5 c = rw (to-threads (c .before .before .before), ← c .before .before .byte-field3 .ensures, c .enum-told3 .given .1)
 
 returns-6 : tie.Need-returns-6
-unfolding fields
-returns-6 c =
-    rw
-    ( ← c .before .before .before .before .before .before .before .before .before .before .before .before .before .before .byte-field .ensures
-    , c .before .before .before .before .before .before .before .before .before .before .before .before .f .given .1
-    , eq-eqb _ _ (c .before .before .before .before .before .before .before .before .before .before .if1 .left)
-    , ← c .before .before .before .before .before .before .before .before .before .byte-field2 .ensures
-    , c .before .before .before .before .before .before .before .f2 .given .1
-    , le-leb _ _ (c .before .before .before .before .before .if2 .left)
-    , ← c .before .before .before .before .byte-field3 .ensures
-    , c .before .before .f3 .given .1
-    , lt-leb _ _ (c .if3 .taken)
-    )
+returns-6 c = rw (to-threads (c .before .before .before .before .before), ← c .before .before .before .before .byte-field3 .ensures, c .before .before .f3 .given .1, lt-leb _ _ (c .if3 .taken))
 
 returns-7 : tie.Need-returns-7
-unfolding fields
 returns-7 c =
-    rw
-    ( ← c .before .before .before .before .before .before .before .before .before .before .before .before .before .before .before .byte-field .ensures
-    , c .before .before .before .before .before .before .before .before .before .before .before .before .before .f .given .1
-    , eq-eqb _ _ (c .before .before .before .before .before .before .before .before .before .before .before .if1 .left)
-    , ← c .before .before .before .before .before .before .before .before .before .before .byte-field2 .ensures
-    , c .before .before .before .before .before .before .before .before .f2 .given .1
-    , le-leb _ _ (c .before .before .before .before .before .before .if2 .left)
-    , ← c .before .before .before .before .before .byte-field3 .ensures
-    , c .before .before .before .f3 .given .1
-    , le-leb _ _ (c .before .if3 .left)
-    , lt-leb _ _ (c .if4 .taken)
+    rw (
+      to-threads (c .before .before .before .before .before .before),
+      ← c .before .before .before .before .before .byte-field3 .ensures,
+      c .before .before .before .f3 .given .1,
+      le-leb _ _ (c .before .if3 .left),
+      lt-leb _ _ (c .if4 .taken),
     )
 
 variable-section-requires : tie.Need-variable-section-requires
@@ -127,22 +100,7 @@ enum-told-4 : tie.Need-enum-told-4
 enum-told-4 c = search needs
 
 returns-8 : tie.Need-returns-8
-unfolding fields
-returns-8 c =
-    rw
-    ( ← c .before .before .before .before .before .before .before .before .before .before .before .before .before .before .before .before .before .before .byte-field .ensures
-    , c .before .before .before .before .before .before .before .before .before .before .before .before .before .before .before .before .f .given .1
-    , eq-eqb _ _ (c .before .before .before .before .before .before .before .before .before .before .before .before .before .before .if1 .left)
-    , ← c .before .before .before .before .before .before .before .before .before .before .before .before .before .byte-field2 .ensures
-    , c .before .before .before .before .before .before .before .before .before .before .before .f2 .given .1
-    , le-leb _ _ (c .before .before .before .before .before .before .before .before .before .if2 .left)
-    , ← c .before .before .before .before .before .before .before .before .byte-field3 .ensures
-    , c .before .before .before .before .before .before .f3 .given .1
-    , le-leb _ _ (c .before .before .before .before .if3 .left)
-    , le-leb _ _ (c .before .before .before .if4 .left)
-    , ← c .before .before .variable-section .ensures
-    , c .enum-told4 .given .1
-    )
+returns-8 c = rw (to-variables (c .before .before .before), ← c .before .before .variable-section .ensures, c .enum-told4 .given .1)
 
 code-sections-requires : tie.Need-code-sections-requires
 code-sections-requires c κs = search needs
@@ -154,66 +112,13 @@ enum-told-5 : tie.Need-enum-told-5
 enum-told-5 c = search needs
 
 returns-9 : tie.Need-returns-9
-unfolding fields
-returns-9 c =
-    rw
-    ( ← c .before .before .before .before .before .before .before .before .before .before .before .before .before .before .before .before .before .before .before .before .before .before .byte-field .ensures
-    , c .before .before .before .before .before .before .before .before .before .before .before .before .before .before .before .before .before .before .before .before .f .given .1
-    , eq-eqb _ _ (c .before .before .before .before .before .before .before .before .before .before .before .before .before .before .before .before .before .before .if1 .left)
-    , ← c .before .before .before .before .before .before .before .before .before .before .before .before .before .before .before .before .before .byte-field2 .ensures
-    , c .before .before .before .before .before .before .before .before .before .before .before .before .before .before .before .f2 .given .1
-    , le-leb _ _ (c .before .before .before .before .before .before .before .before .before .before .before .before .before .if2 .left)
-    , ← c .before .before .before .before .before .before .before .before .before .before .before .before .byte-field3 .ensures
-    , c .before .before .before .before .before .before .before .before .before .before .f3 .given .1
-    , le-leb _ _ (c .before .before .before .before .before .before .before .before .if3 .left)
-    , le-leb _ _ (c .before .before .before .before .before .before .before .if4 .left)
-    , ← c .before .before .before .before .before .before .variable-section .ensures
-    , c .before .before .before .before .f4 .given .1
-    , ← c .before .before .code-sections .ensures
-    , c .enum-told5 .given .1
-    )
+returns-9 c = rw (to-sections (c .before .before .before), ← c .before .before .code-sections .ensures, c .enum-told5 .given .1)
 
 returns-10 : tie.Need-returns-10
-unfolding fields
-returns-10 c =
-    rw
-    ( ← c .before .before .before .before .before .before .before .before .before .before .before .before .before .before .before .before .before .before .before .before .before .before .before .before .byte-field .ensures
-    , c .before .before .before .before .before .before .before .before .before .before .before .before .before .before .before .before .before .before .before .before .before .before .f .given .1
-    , eq-eqb _ _ (c .before .before .before .before .before .before .before .before .before .before .before .before .before .before .before .before .before .before .before .before .if1 .left)
-    , ← c .before .before .before .before .before .before .before .before .before .before .before .before .before .before .before .before .before .before .before .byte-field2 .ensures
-    , c .before .before .before .before .before .before .before .before .before .before .before .before .before .before .before .before .before .f2 .given .1
-    , le-leb _ _ (c .before .before .before .before .before .before .before .before .before .before .before .before .before .before .before .if2 .left)
-    , ← c .before .before .before .before .before .before .before .before .before .before .before .before .before .before .byte-field3 .ensures
-    , c .before .before .before .before .before .before .before .before .before .before .before .before .f3 .given .1
-    , le-leb _ _ (c .before .before .before .before .before .before .before .before .before .before .if3 .left)
-    , le-leb _ _ (c .before .before .before .before .before .before .before .before .before .if4 .left)
-    , ← c .before .before .before .before .before .before .before .before .variable-section .ensures
-    , c .before .before .before .before .before .before .f4 .given .1
-    , ← c .before .before .before .before .code-sections .ensures
-    , c .before .before .f5 .given .1
-    , ne-eqb _ _ (c .if5 .taken)
-    )
+returns-10 c = rw (to-end (c .before), ne-eqb _ _ (c .if5 .taken))
 
 returns-11 : tie.Need-returns-11
-unfolding fields
-returns-11 c =
-    rw
-    ( ← c .before .before .before .before .before .before .before .before .before .before .before .before .before .before .before .before .before .before .before .before .before .before .before .before .byte-field .ensures
-    , c .before .before .before .before .before .before .before .before .before .before .before .before .before .before .before .before .before .before .before .before .before .before .f .given .1
-    , eq-eqb _ _ (c .before .before .before .before .before .before .before .before .before .before .before .before .before .before .before .before .before .before .before .before .if1 .left)
-    , ← c .before .before .before .before .before .before .before .before .before .before .before .before .before .before .before .before .before .before .before .byte-field2 .ensures
-    , c .before .before .before .before .before .before .before .before .before .before .before .before .before .before .before .before .before .f2 .given .1
-    , le-leb _ _ (c .before .before .before .before .before .before .before .before .before .before .before .before .before .before .before .if2 .left)
-    , ← c .before .before .before .before .before .before .before .before .before .before .before .before .before .before .byte-field3 .ensures
-    , c .before .before .before .before .before .before .before .before .before .before .before .before .f3 .given .1
-    , le-leb _ _ (c .before .before .before .before .before .before .before .before .before .before .if3 .left)
-    , le-leb _ _ (c .before .before .before .before .before .before .before .before .before .if4 .left)
-    , ← c .before .before .before .before .before .before .before .before .variable-section .ensures
-    , c .before .before .before .before .before .before .f4 .given .1
-    , ← c .before .before .before .before .code-sections .ensures
-    , c .before .before .f5 .given .1
-    , eq-eqb _ _ (c .if5 .left)
-    )
+returns-11 c = rw (to-end (c .before), eq-eqb _ _ (c .if5 .left))
 
 pub fields-spec : {M : Type 1} → statement M
 fields-spec =

@@ -3,9 +3,9 @@ use Prim.Native.Nat.{_≤_}
 use mathlib.Core.Path.{sym, _∙_}
 use lib.ListN.{length}
 use native.Mathlib.Omega.{arith}
+use borrow.Author.Needs.{needs}
 use Rattle.program.specs.Layout.{reading}
 use Rattle.program.proofs.Sound.{fields-sound}
-use borrow.Author.Needs.{needs}
 use Rattle.program.proofs.layout.read.Statement.{statement}
 use Rattle.program.proofs.layout.read.Tie as tie
 
@@ -35,9 +35,12 @@ enum-known-f-2 c = search needs
 returns : tie.Need-returns
 unfolding reading
 returns c =
-    rw
-    ( ← c .before .before .before .before .before .before .fields .ensures, c .before .before .before .before .f .given .1
-    , ← c .pair-at .ensures .0, ← c .before .byte-at2 .ensures .0, ← c .before .before .byte-at .ensures .0
+    rw (
+      ← c .before .before .before .before .before .before .fields .ensures,
+      c .before .before .before .before .f .given .1,
+      ← c .pair-at .ensures .0,
+      ← c .before .byte-at2 .ensures .0,
+      ← c .before .before .byte-at .ensures .0,
     )
 
 returns-2 : tie.Need-returns-2

@@ -3,10 +3,10 @@ use Prim.Native.Nat.{_+_, _*_, _≤_}
 use mathlib.Core.Path.{sym, ap, _∙_}
 use lib.ListN.{length}
 use native.Mathlib.Omega.{arith}
+use borrow.Author.Needs.{needs}
 use Rattle.program.specs.Layout.{variableSection}
 use Rattle.program.specs.declared.cursor.Cursor.{Cursor}
 use Rattle.program.proofs.Answers.{section-value}
-use borrow.Author.Needs.{needs}
 use Rattle.program.proofs.layout.variable_section.Statement.{statement}
 use Rattle.program.proofs.layout.variable_section.Tie as tie
 

@@ -1,8 +1,8 @@
 -- `at_else` meets its contract. Assumes nothing.
-use Rattle.program.specs.Nesting.{atElse}
 use native.Mathlib.Omega.{arith}
-use borrow.Author.Tests.{eq-eqb, ne-eqb, lt-ltb, le-ltb}
+use borrow.Author.Tests.{eq-eqb, ne-eqb}
 use borrow.Author.Needs.{needs}
+use Rattle.program.specs.Nesting.{atElse}
 use Rattle.program.proofs.nesting.at_else.Statement.{statement}
 use Rattle.program.proofs.nesting.at_else.Tie as tie
 

@@ -1,8 +1,8 @@
 -- `at_end` meets its contract. Assumes nothing.
-use Rattle.program.specs.Nesting.{atEnd}
 use native.Mathlib.Omega.{arith}
-use borrow.Author.Tests.{eq-eqb, ne-eqb, lt-ltb, le-ltb}
+use borrow.Author.Tests.{eq-eqb, ne-eqb}
 use borrow.Author.Needs.{needs}
+use Rattle.program.specs.Nesting.{atEnd}
 use Rattle.program.proofs.nesting.at_end.Statement.{statement}
 use Rattle.program.proofs.nesting.at_end.Tie as tie
 

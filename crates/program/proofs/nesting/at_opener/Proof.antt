@@ -1,8 +1,8 @@
 -- `at_opener` meets its contract. Assumes nothing.
-use Rattle.program.specs.Nesting.{opening}
 use native.Mathlib.Omega.{arith}
 use borrow.Author.Tests.{eq-eqb, ne-eqb, lt-ltb, le-ltb}
 use borrow.Author.Needs.{needs}
+use Rattle.program.specs.Nesting.{opening}
 use Rattle.program.proofs.nesting.at_opener.Statement.{statement}
 use Rattle.program.proofs.nesting.at_opener.Tie as tie
 

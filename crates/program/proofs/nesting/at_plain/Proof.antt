@@ -1,8 +1,6 @@
 -- `at_plain` meets its contract. Assumes nothing.
-use Rattle.program.specs.Nesting.{passing}
-use native.Mathlib.Omega.{arith}
-use borrow.Author.Tests.{eq-eqb, ne-eqb, lt-ltb, le-ltb}
 use borrow.Author.Needs.{needs}
+use Rattle.program.specs.Nesting.{passing}
 use Rattle.program.proofs.nesting.at_plain.Statement.{statement}
 use Rattle.program.proofs.nesting.at_plain.Tie as tie
 

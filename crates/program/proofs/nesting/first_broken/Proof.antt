@@ -1,11 +1,11 @@
 -- `first_broken`: the rest of the scan from this place, with the entries in the array, equals the whole. Assumes nothing.
-use Prim.Native.Nat.{ℕ, _+_, _-_, _*_, _≤_}
+use Prim.Native.Nat.{_+_, _-_, _≤_}
 use mathlib.Core.Path.{_≡_, refl, sym, _∙_}
 use mathlib.Core.List.{[]}
 use lib.ListN.{length}
 use native.Mathlib.Omega.{arith}
 use borrow.Author.Needs.{needs}
-use Rattle.program.specs.Layout.{instructionsAt, offsetFrom}
+use Rattle.program.specs.Layout.{instructionsAt}
 use Rattle.program.specs.Nesting.{firstBroken, atCodeEnd}
 use Rattle.program.specs.Stack.{entriesOf, entriesAfter, depthAfter, Room}
 use Rattle.program.specs.declared.found.Found.the-variants.{At}
@@ -49,7 +49,7 @@ room u =
 
 goes : (u : Place) (ch : Change) → u .turn-at .result ≡ Goes ch
     → restFrom (u .before .before .before .before .before .before .before .args .locks) (u .before .before .before .before .before .before .before .args .variables) (u .before .before .before .before .before .before .before .args .s .now) (u .before .before .before .before .before .before .before .args .start) (u .before .before .before .before .before .before .before .args .n) (u .before .before .before .before .before .loop .p + 1)
-      (entriesOf (depthAfter ch (u .before .before .before .before .before .loop .depth)) (entriesAfter ch (u .before .before .before .before .before .loop .depth) (u .before .before .before .before .before .loop .entries)))
+    (entriesOf (depthAfter ch (u .before .before .before .before .before .loop .depth)) (entriesAfter ch (u .before .before .before .before .before .loop .depth) (u .before .before .before .before .before .loop .entries)))
     ≡ firstBroken 0 (instructionsAt (u .before .before .before .before .before .before .before .args .locks) (u .before .before .before .before .before .before .before .args .variables) (u .before .before .before .before .before .before .before .args .s .now) (u .before .before .before .before .before .before .before .args .n) (u .before .before .before .before .before .before .before .args .start)) []
 goes u ch e =
     let a = u .before .before .before .before .before .before .before .args in
@@ -115,11 +115,12 @@ loop-again : tie.Need-loop-again Inv-loop μ-loop
 loop-again c =
     let l = c .before .before .before .before .before .before .before .before .before .before .loop in
     let ch = c .before .before .before .t .given .0 .0 in
-    rw (c .before .entries-after .ensures, c .depth-after .ensures)
-    ( omega arith
-    , depth-change ch (l .depth) (l .inv .1) (room (c .before .before .before .before .before) ch (c .before .before .before .t .given .1))
-    , length-change ch (l .depth) (l .entries) ∙ l .inv .2
-    , goes (c .before .before .before .before .before) ch (c .before .before .before .t .given .1))
+    rw (c .before .entries-after .ensures, c .depth-after .ensures) (
+      omega arith,
+      depth-change ch (l .depth) (l .inv .1) (room (c .before .before .before .before .before) ch (c .before .before .before .t .given .1)),
+      length-change ch (l .depth) (l .entries) ∙ l .inv .2,
+      goes (c .before .before .before .before .before) ch (c .before .before .before .t .given .1),
+    )
 
 returns-2 : tie.Need-returns-2 Inv-loop μ-loop
 unfolding entriesOf atCodeEnd

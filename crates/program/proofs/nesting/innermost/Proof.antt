@@ -1,8 +1,8 @@
 -- `innermost` meets its contract. Assumes nothing.
-use Rattle.program.proofs.Stack.{entries-top}
-use Rattle.program.specs.Stack.{entriesOf}
 use native.Mathlib.Omega.{arith}
 use borrow.Author.Needs.{needs}
+use Rattle.program.specs.Stack.{entriesOf}
+use Rattle.program.proofs.Stack.{entries-top}
 use Rattle.program.proofs.nesting.innermost.Statement.{statement}
 use Rattle.program.proofs.nesting.innermost.Tie as tie
 

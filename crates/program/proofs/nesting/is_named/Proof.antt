@@ -1,6 +1,6 @@
 -- `is_named` meets its contract. Assumes nothing.
-use Rattle.program.specs.Nesting.{unnamed}
 use borrow.Author.Needs.{needs}
+use Rattle.program.specs.Nesting.{unnamed}
 use Rattle.program.proofs.nesting.is_named.Statement.{statement}
 use Rattle.program.proofs.nesting.is_named.Tie as tie
 

@@ -1,6 +1,6 @@
 -- `named` meets its contract. Assumes nothing.
-use Rattle.program.specs.Nesting.{named}
 use borrow.Author.Needs.{needs}
+use Rattle.program.specs.Nesting.{named}
 use Rattle.program.proofs.nesting.named.Statement.{statement}
 use Rattle.program.proofs.nesting.named.Tie as tie
 

@@ -1,6 +1,6 @@
 -- `turn_at` meets its contract. Assumes nothing.
-use Rattle.program.specs.Nesting.{nest}
 use borrow.Author.Needs.{needs}
+use Rattle.program.specs.Nesting.{nest}
 use Rattle.program.proofs.nesting.turn_at.Statement.{statement}
 use Rattle.program.proofs.nesting.turn_at.Tie as tie
 
