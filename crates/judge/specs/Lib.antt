@@ -10,3 +10,4 @@ pub mod Discipline
 pub mod Judging
 pub mod Acceptance
 pub mod Scan
+pub mod Turns
