@@ -29,7 +29,7 @@ use Rattle.program.specs.declared.refusal.Refusal.the-variants.{Nesting, SetsDi
 use Rattle.judge.specs.Discipline.{locksAfter, atomicityOf}
 use Rattle.judge.specs.Judging.{Judged, judge, isTop}
 use Rattle.judge.specs.LockSet.{same}
-use Rattle.judge.specs.Scan.{Carried, turn, turnBy, passing, opening, closing, refusing, atElse, atAgain, atEnd, follow, scan}
+use Rattle.judge.specs.Scan.{Carried, turn, turnBy, passing, opening, closing, refusing, follow, scan}
 use Rattle.judge.specs.declared.frame.Frame.{Frame}
 use Rattle.judge.specs.declared.frame.Part.{Part}
 use Rattle.judge.specs.declared.frame.Part.the-variants as part
@@ -177,7 +177,7 @@ module _ (p : Program) (t : ℕ) where
         (λ v. reportByte b ∷ (inside ++ 0 ∷ v)) rest w h e₁ e₂ (λ v. sets-closed report at at₁ (reportByte b) inside v e₃)
 
   loop-agrees : (x : ℕ) (body c : Code) → Agrees body → Agrees c → Agrees (loop x body c)
-  unfolding flat judge size scan WellFormed depth turn turnBy formOf atAgain
+  unfolding flat judge size scan WellFormed depth turn turnBy formOf
   loop-agrees x body c inside next d at s a f fs report rest w h =
       let frame = opened part.Body at s a in
       let d₁ = d + 4 + 4 * size body in
@@ -198,7 +198,7 @@ module _ (p : Program) (t : ℕ) where
       ∙ sym (bind-assoc (judge p t (d + 4) s body) _ _)
 
   block-agrees : (body c : Code) → Agrees body → Agrees c → Agrees (block body c)
-  unfolding flat judge size scan WellFormed depth turn turnBy formOf atEnd
+  unfolding flat judge size scan WellFormed depth turn turnBy formOf
   block-agrees body c inside next d at s a f fs report rest w h =
       let frame = opened part.Block at s a in
       let d₁ = d + 4 + 4 * size body in
@@ -219,7 +219,7 @@ module _ (p : Program) (t : ℕ) where
       ∙ sym (bind-assoc (judge p t (d + 4) s body) _ _)
 
   choice-agrees : (x : ℕ) (one two c : Code) → Agrees one → Agrees two → Agrees c → Agrees (choice x one two c)
-  unfolding flat judge size scan WellFormed depth turn turnBy formOf atElse atEnd follow
+  unfolding flat judge size scan WellFormed depth turn turnBy formOf follow
   choice-agrees x one two c first second next d at s a f fs report rest w h =
       let d₁ = d + 4 + 4 * size one in
       let d₂ = d₁ + 4 + 4 * size two in

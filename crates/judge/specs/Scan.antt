@@ -51,50 +51,58 @@ opening part at s a = record
 abbrev pub closing : Atomicity → LockSet → Frame → Turn
 closing b s f = record { step = Close (f .opener) (reportByte b); locks = s; sofar = composition (f .before) b; frame = f }
 
--- "Both parts of an IF start with the set at the IF"
-unfoldable pub atElse : (d : ℕ) → LockSet → Atomicity → Frame → Turn
-atElse d s a f = elim (f .part)
-  [ Whole ↦ refusing (Nesting d) s a f
-  | Then ↦ record
-      { step = Replace
-      ; locks = f .locks
-      ; sofar = Both
-      ; frame = record { part = Else; opener = f .opener; locks = s; first = a; before = f .before }
-      }
-  | Else ↦ refusing (Nesting d) s a f
-  | Body ↦ refusing (Nesting d) s a f
-  | Block ↦ refusing (Nesting d) s a f
-  ]
+-- an ELSE: "Both parts of an IF start with the set at the IF"
+abbrev pub elsePart : LockSet → Atomicity → Frame → Turn
+elsePart s a f = record
+  { step = Replace
+  ; locks = f .locks
+  ; sofar = Both
+  ; frame = record { part = Else; opener = f .opener; locks = s; first = a; before = f .before }
+  }
 
--- "A WHILE's body must end with the set it began with"
-unfoldable pub atAgain : (d : ℕ) → LockSet → Atomicity → Frame → Turn
-atAgain d s a f = elim (f .part)
-  [ Whole ↦ refusing (Nesting d) s a f
-  | Then ↦ refusing (Nesting d) s a f
-  | Else ↦ refusing (Nesting d) s a f
-  | Body ↦ choose (same (f .locks) s) (closing (closure a) (f .locks) f) (refusing (SetsDiffer d) s a f)
-  | Block ↦ refusing (Nesting d) s a f
-  ]
+-- an IF's END: both parts "must end with equal sets"
+abbrev pub choiceEnd : (d : ℕ) → LockSet → Atomicity → Frame → Turn
+choiceEnd d s a f = choose (same (f .locks) s) (closing (join (f .first) a) (f .locks) f) (refusing (SetsDiffer d) s a f)
 
--- both parts of an IF "must end with equal sets"; "ATOMIC has its body's atomicity, which must not be T"
-unfoldable pub atEnd : (d : ℕ) → LockSet → Atomicity → Frame → Turn
-atEnd d s a f = elim (f .part)
-  [ Whole ↦ refusing (Nesting d) s a f
-  | Then ↦ refusing (Nesting d) s a f
-  | Else ↦ choose (same (f .locks) s) (closing (join (f .first) a) (f .locks) f) (refusing (SetsDiffer d) s a f)
-  | Body ↦ refusing (Nesting d) s a f
-  | Block ↦ choose (not (isTop a)) (closing a s f) (refusing (NotAtomic d) s a f)
-  ]
+-- AGAIN: "A WHILE's body must end with the set it began with"
+abbrev pub loopEnd : (d : ℕ) → LockSet → Atomicity → Frame → Turn
+loopEnd d s a f = choose (same (f .locks) s) (closing (closure a) (f .locks) f) (refusing (SetsDiffer d) s a f)
+
+-- an ATOMIC's END: "ATOMIC has its body's atomicity, which must not be T"
+abbrev pub blockEnd : (d : ℕ) → LockSet → Atomicity → Frame → Turn
+blockEnd d s a f = choose (not (isTop a)) (closing a s f) (refusing (NotAtomic d) s a f)
+
+-- a closer in a part of this kind
+abbrev pub atElse : Part → (d : ℕ) → LockSet → Atomicity → Frame → Turn
+atElse Whole d s a f = refusing (Nesting d) s a f
+atElse Then d s a f = elsePart s a f
+atElse Else d s a f = refusing (Nesting d) s a f
+atElse Body d s a f = refusing (Nesting d) s a f
+atElse Block d s a f = refusing (Nesting d) s a f
+
+abbrev pub atAgain : Part → (d : ℕ) → LockSet → Atomicity → Frame → Turn
+atAgain Whole d s a f = refusing (Nesting d) s a f
+atAgain Then d s a f = refusing (Nesting d) s a f
+atAgain Else d s a f = refusing (Nesting d) s a f
+atAgain Body d s a f = loopEnd d s a f
+atAgain Block d s a f = refusing (Nesting d) s a f
+
+abbrev pub atEnd : Part → (d : ℕ) → LockSet → Atomicity → Frame → Turn
+atEnd Whole d s a f = refusing (Nesting d) s a f
+atEnd Then d s a f = refusing (Nesting d) s a f
+atEnd Else d s a f = choiceEnd d s a f
+atEnd Body d s a f = refusing (Nesting d) s a f
+atEnd Block d s a f = blockEnd d s a f
 
 -- the instruction i of this form at file offset d of thread t
 unfoldable pub turnBy : Form → Program → (t d at : ℕ) → Instruction → LockSet → Atomicity → Frame → Turn
 turnBy form.Plain p t d at i s a f = passing (atomicityOf p t i) s a f (locksAfter p t d i s)
 turnBy (form.If r n) p t d at i s a f = opening Then at s a
-turnBy (form.Else n) p t d at i s a f = atElse d s a f
+turnBy (form.Else n) p t d at i s a f = atElse (f .part) d s a f
 turnBy (form.While r n) p t d at i s a f = opening Body at s a
-turnBy (form.Again n) p t d at i s a f = atAgain d s a f
+turnBy (form.Again n) p t d at i s a f = atAgain (f .part) d s a f
 turnBy (form.Atomic n) p t d at i s a f = opening Block at s a
-turnBy form.End p t d at i s a f = atEnd d s a f
+turnBy form.End p t d at i s a f = atEnd (f .part) d s a f
 
 unfoldable pub turn : Program → (t d at : ℕ) → Instruction → LockSet → Atomicity → Frame → Turn
 turn p t d at i s a f = turnBy (formOf i) p t d at i s a f
