@@ -9,3 +9,4 @@ pub mod VariableKinds
 pub mod Answers
 pub mod Reports
 pub mod Scanning
+pub mod ScanLoop

@@ -1,9 +1,9 @@
 -- Judging as one pass over a thread's flat code, with a stack of open frames; what the code of src/ does. A second definition: the
 -- rules are `Judging`'s, and `proofs/Scanning.antt` proves that the two agree.
-use Prim.Native.Nat.{ℕ, suc, _+_, _*_}
+use Prim.Native.Nat.{ℕ, zero, suc, _+_, _*_}
 use mathlib.Core.Bool.{Bool, not}
 use mathlib.Core.List.{List, [], _∷_}
-use lib.ListN.{length, set}
+use lib.ListN.{length, getD, set}
 use lib.Dec.{ltb}
 use Rattle.atomicity.specs.Atomicity.{reportByte, composition, join, closure}
 use Rattle.atomicity.specs.declared.Atomicity.{Atomicity}
@@ -19,6 +19,8 @@ use Rattle.program.specs.declared.refusal.Refusal.the-variants.{Nesting, SetsDi
 use Rattle.judge.specs.Discipline.{locksAfter, atomicityOf}
 use Rattle.judge.specs.Judging.{isTop}
 use Rattle.judge.specs.LockSet.{empty, same}
+use Rattle.judge.specs.declared.discipline.Verdict.{Verdict}
+use Rattle.judge.specs.declared.discipline.Verdict.the-variants.{Allowed, Refused}
 use Rattle.judge.specs.declared.frame.Frame.{Frame}
 use Rattle.judge.specs.declared.frame.Part.{Part}
 use Rattle.judge.specs.declared.frame.Part.the-variants.{Whole, Then, Else, Body, Block}
@@ -126,18 +128,21 @@ abbrev pub closed : (d : ℕ) → Turn → List Frame → List ℕ → Answer Ca
 closed d u [] report = refused (Nesting d)
 closed d u (f ∷ fs) report = fine (record { locks = u .locks; sofar = u .sofar; inner = f; outer = fs; report = report })
 
--- what is carried on from a turn at file offset d and report index `at`. "0 for ELSE, AGAIN and END; the whole construct's at its
--- opener"
+-- what is carried on from a turn with this step, at file offset d and report index `at`. "0 for ELSE, AGAIN and END; the whole
+-- construct's at its opener"
+unfoldable pub followBy : Step → (d at : ℕ) → Carried → Turn → Answer Carried
+followBy (Pass b) d at x u =
+    fine (record { locks = u .locks; sofar = u .sofar; inner = x .inner; outer = x .outer; report = set (x .report) at b })
+followBy Open d at x u = choose (ltb (length (x .outer)) frameLimit)
+    (fine (record { locks = u .locks; sofar = u .sofar; inner = u .frame; outer = x .inner ∷ x .outer; report = set (x .report) at 0 }))
+    (refused (Nesting d))
+followBy Replace d at x u =
+    fine (record { locks = u .locks; sofar = u .sofar; inner = u .frame; outer = x .outer; report = set (x .report) at 0 })
+followBy (Close opener b) d at x u = closed d u (x .outer) (set (set (x .report) at 0) opener b)
+followBy (Refuse r) d at x u = refused r
+
 unfoldable pub follow : (d at : ℕ) → Carried → Turn → Answer Carried
-follow d at x u = elim (u .step)
-  [ Pass b ↦ fine (record { locks = u .locks; sofar = u .sofar; inner = x .inner; outer = x .outer; report = set (x .report) at b })
-  | Open ↦ choose (ltb (length (x .outer)) frameLimit)
-      (fine (record { locks = u .locks; sofar = u .sofar; inner = u .frame; outer = x .inner ∷ x .outer; report = set (x .report) at 0 }))
-      (refused (Nesting d))
-  | Replace ↦ fine (record { locks = u .locks; sofar = u .sofar; inner = u .frame; outer = x .outer; report = set (x .report) at 0 })
-  | Close opener b ↦ closed d u (x .outer) (set (set (x .report) at 0) opener b)
-  | Refuse r ↦ refused r
-  ]
+follow d at x u = followBy (u .step) d at x u
 
 -- code of thread t whose first instruction has file offset d and its byte at `at` in the report
 unfoldable pub scan : Program → (t d at : ℕ) → Carried → List Instruction → Answer Carried
@@ -169,3 +174,15 @@ scanThreads p t at report [] = fine report
 scanThreads p t at report (section ∷ sections) = do
   report′ ← scanThread p t at report section
   scanThreads p (suc t) (at + length (section .code) + 1) report′ sections
+
+-- The code's answers
+
+-- a verdict and the buffer that was left: the report's bytes, or the refusal
+abbrev pub reported : Verdict → List ℕ → Answer (List ℕ)
+reported Allowed report = fine report
+reported (Refused r) report = refused r
+
+-- the first n frames of an array of frames, innermost first
+unfoldable pub framesOf : ℕ → List Frame → List Frame
+framesOf zero frames = []
+framesOf (suc n) frames = getD frames n wholeFrame ∷ framesOf n frames

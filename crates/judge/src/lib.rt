@@ -3,3 +3,4 @@ pub mod lock_set;
 pub mod discipline;
 pub mod frame;
 pub mod turn;
+pub mod scan;
