@@ -10,3 +10,4 @@ pub mod Answers
 pub mod Reports
 pub mod Scanning
 pub mod ScanLoop
+pub mod ScanThreads
