@@ -11,3 +11,4 @@ pub mod Reports
 pub mod Scanning
 pub mod ScanLoop
 pub mod ScanThreads
+pub mod ThreadLoop

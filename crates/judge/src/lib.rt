@@ -4,3 +4,4 @@ pub mod discipline;
 pub mod frame;
 pub mod turn;
 pub mod scan;
+pub mod judging;
