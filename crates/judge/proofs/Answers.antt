@@ -58,3 +58,14 @@ require-holds P false r m h = tt
 pub holds-fine : {A : Type 0} (P : A → Type 0) (m : Answer A) (a : A) → Holds P m → m ≡ fine a → P a
 holds-fine P (fine x) a h e = subst P (fine-inj x a e) h
 holds-fine P (refused r) a h e = absurd (let z : _≡_ {A = ℕ} 0 1 = cc in omega arith)
+
+pub refused-inj : {A : Type 0} (r q : Refusal) → _≡_ {A = Answer A} (refused r) (refused q) → r ≡ q
+refused-inj r q e = cc
+
+-- an answer is not both
+pub fine-not-refused : {A B : Type 0} (a : A) (r : Refusal) → refused r ≡ fine a → B
+fine-not-refused a r e = absurd (let z : _≡_ {A = ℕ} 0 1 = cc in let none : ⊥ = omega arith in none)
+
+pub holds-map : {A : Type 0} (P Q : A → Type 0) (m : Answer A) → Holds P m → ((a : A) → P a → Q a) → Holds Q m
+holds-map P Q (fine a) h f = f a h
+holds-map P Q (refused r) h f = tt

@@ -12,3 +12,4 @@ pub mod Scanning
 pub mod ScanLoop
 pub mod ScanThreads
 pub mod ThreadLoop
+pub mod Accepting
