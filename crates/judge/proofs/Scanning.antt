@@ -111,7 +111,7 @@ module _ (p : Program) (t : ℕ) where
       ∙ sym (bind-assoc (judge p t d s c) _ _)
 
   -- one turn of a plain instruction
-  plain-turn : (d at : ℕ) (i : Instruction) (s : LockSet) (a : Atomicity) (f : Frame) (fs : List Frame) (report : List ℕ)
+  pub plain-turn : (d at : ℕ) (i : Instruction) (s : LockSet) (a : Atomicity) (f : Frame) (fs : List Frame) (report : List ℕ)
       → formOf i ≡ form.Plain
       → follow d at (carried s a f fs report) (turn p t d at i s a f)
         ≡ (locksAfter p t d i s >>= λ s′. fine (carried s′ (composition a (atomicityOf p t i)) f fs (set report at (reportByte (atomicityOf p t i)))))

@@ -6,15 +6,17 @@ use program::layout::Layout;
 use program::refusal::Refusal;
 use program::variable::Kind;
 use crate::lock_set::LockSet;
+use crate::lock_set::is_held;
 ghost use mathlib.Core.Path.{_≡_};
+ghost use mathlib.Core.Bool.{false};
 ghost use Prim.Native.Nat.{_+_, _*_, _≤_};
 ghost use lib.ListN.{length};
-ghost use Rattle.program.specs.Choice.{fine, refused, choose};
+ghost use Rattle.program.specs.Choice.{choose};
 ghost use Rattle.program.specs.Layout.{programOf};
-ghost use Rattle.program.specs.declared.refusal.Refusal.the-variants.{Access, Taken, NotTaken};
+ghost use Rattle.program.specs.declared.refusal.Refusal.the-variants.{Access};
 ghost use Rattle.judge.specs.Discipline.{kindAt, permits, accessAtomicity, locksAfter, atomicityOf};
-ghost use Rattle.judge.specs.LockSet.{holds, withLock, withoutLock};
-ghost use Rattle.judge.specs.Turns.{answerOf};
+ghost use Rattle.judge.specs.declared.lock_set.LockSet.{LockSet};
+ghost use Rattle.judge.specs.Turns.{answerOf, judged, moved};
 
 pub enum Verdict {
     Allowed,
@@ -40,56 +42,108 @@ pub fn kind_of(s: &[u8], l: Layout, v: u8) -> Kind
 }
 
 // Whether a thread that holds these locks may read or write a variable of this kind.
-pub fn permits(kind: Kind, thread: usize, locks: LockSet, writes: bool) -> bool
-    ensures { λ r. ⌜ r ≡ permits kind thread locks writes ⌝ }
+fn permits(kind: Kind, thread: usize, held: &[bool], writes: bool) -> bool
+    ensures { λ r. ⌜ r ≡ permits kind thread (record { held = now (held .entry) }) writes ⌝ }
 {
     match kind {
-        Kind::Guarded(g) => locks.holds(g),
+        Kind::Guarded(g) => is_held(held, g),
         Kind::Own(g) => (g as usize) == thread,
         Kind::Fixed => !writes,
         Kind::Open => true,
     }
 }
 
-fn allowed(locks: LockSet) -> Locked
-    ensures { λ r. ⌜ r ≡ record { verdict = Verdict.Allowed; locks = locks } ⌝ }
+fn checked(good: bool, refusal: Refusal) -> Verdict
+    ensures { λ r. ⌜ r ≡ choose good Verdict.Allowed (Verdict.Refused refusal) ⌝ }
 {
-    Locked { verdict: Verdict::Allowed, locks }
-}
-
-fn offence(refusal: Refusal, locks: LockSet) -> Locked
-    ensures { λ r. ⌜ r ≡ record { verdict = Verdict.Refused refusal; locks = locks } ⌝ }
-{
-    Locked { verdict: Verdict::Refused(refusal), locks }
+    if good {
+        return Verdict::Allowed;
+    }
+    Verdict::Refused(refusal)
 }
 
 // A read or a write of variable v.
-fn access(s: &[u8], l: Layout, thread: usize, d: usize, v: u8, locks: LockSet, writes: bool) -> Locked
+fn access(s: &[u8], l: Layout, thread: usize, d: usize, v: u8, held: &[bool], writes: bool) -> Verdict
     requires { ⌜ 5 + 6 * l .variables ≤ length (now s) ⌝ }
-    ensures { λ r. ⌜ answerOf r ≡ choose (permits (kindAt (programOf (now (s .entry)) l) v) thread locks writes) (fine locks) (refused (Access d)) ⌝ }
-{
-    if permits(kind_of(s, l, v), thread, locks, writes) {
-        return allowed(locks);
+    ensures {
+        λ r. ⌜ r ≡ choose (permits (kindAt (programOf (now (s .entry)) l) v) thread (record { held = now (held .entry) }) writes)
+            Verdict.Allowed (Verdict.Refused (Access d)) ⌝
     }
-    offence(Refusal::Access(d), locks)
+{
+    checked(permits(kind_of(s, l, v), thread, held, writes), Refusal::Access(d))
 }
 
-fn taken(d: usize, k: u8, locks: LockSet) -> Locked
-    ensures { λ r. ⌜ answerOf r ≡ choose (holds locks k) (refused (Taken d)) (fine (withLock locks k)) ⌝ }
-{
-    if locks.holds(k) {
-        return offence(Refusal::Taken(d), locks);
+// What an instruction at file offset d offends, where the set with these flags is held.
+pub fn offence(s: &[u8], l: Layout, thread: usize, d: usize, i: Instruction, held: &[bool]) -> Verdict
+    requires { ⌜ 5 + 6 * l .variables ≤ length (now s) ⌝ }
+    ensures {
+        λ r. ⌜ judged r (moved i (record { held = now (held .entry) }))
+            ≡ locksAfter (programOf (now (s .entry)) l) thread d i (record { held = now (held .entry) }) ⌝
     }
-    allowed(locks.with(k))
+{
+    match i {
+        Instruction::Set(_, _) => Verdict::Allowed,
+        Instruction::Copy(_, _) => Verdict::Allowed,
+        Instruction::Add(_, _, _) => Verdict::Allowed,
+        Instruction::Sub(_, _, _) => Verdict::Allowed,
+        Instruction::Less(_, _, _) => Verdict::Allowed,
+        Instruction::Read(_, v) => access(s, l, thread, d, v, held, false),
+        Instruction::Write(_, v) => access(s, l, thread, d, v, held, true),
+        Instruction::Take(k) => checked(!is_held(held, k), Refusal::Taken(d)),
+        Instruction::Give(k) => checked(is_held(held, k), Refusal::NotTaken(d)),
+        Instruction::If(_, _) => Verdict::Allowed,
+        Instruction::Else(_) => Verdict::Allowed,
+        Instruction::While(_, _) => Verdict::Allowed,
+        Instruction::Again(_) => Verdict::Allowed,
+        Instruction::Atomic(_) => Verdict::Allowed,
+        Instruction::End => Verdict::Allowed,
+    }
 }
 
-fn given(d: usize, k: u8, locks: LockSet) -> Locked
-    ensures { λ r. ⌜ answerOf r ≡ choose (holds locks k) (fine (withoutLock locks k)) (refused (NotTaken d)) ⌝ }
+// Whether an instruction changes the lock set: the set is copied only where it does.
+pub fn moves(i: Instruction) -> bool
+    ensures { λ r. ⌜ (r ≡ false → (s : LockSet) → moved i s ≡ s) ⌝ }
 {
-    if locks.holds(k) {
-        return allowed(locks.without(k));
+    match i {
+        Instruction::Set(_, _) => false,
+        Instruction::Copy(_, _) => false,
+        Instruction::Add(_, _, _) => false,
+        Instruction::Sub(_, _, _) => false,
+        Instruction::Less(_, _, _) => false,
+        Instruction::Read(_, _) => false,
+        Instruction::Write(_, _) => false,
+        Instruction::Take(_) => true,
+        Instruction::Give(_) => true,
+        Instruction::If(_, _) => false,
+        Instruction::Else(_) => false,
+        Instruction::While(_, _) => false,
+        Instruction::Again(_) => false,
+        Instruction::Atomic(_) => false,
+        Instruction::End => false,
     }
-    offence(Refusal::NotTaken(d), locks)
+}
+
+// The lock set after an instruction that offends nothing.
+pub fn move_locks(i: Instruction, locks: LockSet) -> LockSet
+    ensures { λ r. ⌜ r ≡ moved i locks ⌝ }
+{
+    match i {
+        Instruction::Set(_, _) => locks,
+        Instruction::Copy(_, _) => locks,
+        Instruction::Add(_, _, _) => locks,
+        Instruction::Sub(_, _, _) => locks,
+        Instruction::Less(_, _, _) => locks,
+        Instruction::Read(_, _) => locks,
+        Instruction::Write(_, _) => locks,
+        Instruction::Take(k) => locks.with(k),
+        Instruction::Give(k) => locks.without(k),
+        Instruction::If(_, _) => locks,
+        Instruction::Else(_) => locks,
+        Instruction::While(_, _) => locks,
+        Instruction::Again(_) => locks,
+        Instruction::Atomic(_) => locks,
+        Instruction::End => locks,
+    }
 }
 
 // The lock set after an instruction at file offset d, or what it offends.
@@ -97,22 +151,11 @@ pub fn locks_after(s: &[u8], l: Layout, thread: usize, d: usize, i: Instruction,
     requires { ⌜ 5 + 6 * l .variables ≤ length (now s) ⌝ }
     ensures { λ r. ⌜ answerOf r ≡ locksAfter (programOf (now (s .entry)) l) thread d i locks ⌝ }
 {
-    match i {
-        Instruction::Set(_, _) => allowed(locks),
-        Instruction::Copy(_, _) => allowed(locks),
-        Instruction::Add(_, _, _) => allowed(locks),
-        Instruction::Sub(_, _, _) => allowed(locks),
-        Instruction::Less(_, _, _) => allowed(locks),
-        Instruction::Read(_, v) => access(s, l, thread, d, v, locks, false),
-        Instruction::Write(_, v) => access(s, l, thread, d, v, locks, true),
-        Instruction::Take(k) => taken(d, k, locks),
-        Instruction::Give(k) => given(d, k, locks),
-        Instruction::If(_, _) => allowed(locks),
-        Instruction::Else(_) => allowed(locks),
-        Instruction::While(_, _) => allowed(locks),
-        Instruction::Again(_) => allowed(locks),
-        Instruction::Atomic(_) => allowed(locks),
-        Instruction::End => allowed(locks),
+    let verdict = offence(s, l, thread, d, i, &locks.held);
+    let after = move_locks(i, locks);
+    Locked {
+        verdict,
+        locks: after,
     }
 }
 

@@ -1,9 +1,15 @@
 // A thread's code judged in one pass (document 01, "Lock discipline", "Atomicities").
 use atomicity::Atomicity;
+use program::instruction::Form;
+use program::instruction::form_of;
 use program::instruction::instruction_at;
 use program::layout::Layout;
 use program::refusal::Refusal;
 use crate::discipline::Verdict;
+use crate::discipline::atomicity_of;
+use crate::discipline::move_locks;
+use crate::discipline::moves;
+use crate::discipline::offence;
 use crate::frame::Frame;
 use crate::frame::Part;
 use crate::lock_set::LockSet;
@@ -56,8 +62,9 @@ pub fn scan_thread(
             (record { start = start; code = instructionsAt (l .locks) (l .variables) (now (s .entry)) count start }) ⌝
     }
 {
-    let mut inner = whole_frame();
-    let mut outer = [inner; 16];
+    let whole = whole_frame();
+    // The open frames, outermost first; the innermost is at `depth`.
+    let mut frames = [whole; 17];
     let mut depth = 0;
     let mut locks = LockSet::empty();
     let mut sofar = Atomicity::Both;
@@ -67,13 +74,29 @@ pub fn scan_thread(
     while 0 < left {
         let offset = d;
         let place = here;
-        let i = instruction_at(s, offset, l.locks, l.variables);
-        let turn = take_turn(s, l, thread, offset, place, i, locks, sofar, inner);
-        locks = turn.locks;
-        sofar = turn.sofar;
         d += 4;
         here += 1;
         left -= 1;
+        let i = instruction_at(s, offset, l.locks, l.variables);
+        let form = form_of(i);
+        if let Form::Plain = form {
+            let verdict = offence(s, l, thread, offset, i, &locks.held);
+            if let Verdict::Refused(refusal) = verdict {
+                return Verdict::Refused(refusal);
+            }
+            let own = atomicity_of(s, l, thread, i);
+            sofar = sofar.then(own);
+            put(&mut *report, place, own.report_byte());
+            if moves(i) {
+                locks = move_locks(i, locks);
+            }
+            continue;
+        }
+        let inner = frames[depth];
+        let turn = take_turn(s, l, thread, offset, place, i, locks, sofar, inner);
+        let frame = turn.frame;
+        locks = turn.locks;
+        sofar = turn.sofar;
         let step = turn.step;
         match step {
             Step::Pass(byte) => put(&mut *report, place, byte),
@@ -81,13 +104,12 @@ pub fn scan_thread(
                 if 16 <= depth {
                     return Verdict::Refused(Refusal::Nesting(offset));
                 }
-                outer[depth] = inner;
                 depth += 1;
-                inner = turn.frame;
+                frames[depth] = frame;
                 put(&mut *report, place, 0)
             }
             Step::Replace => {
-                inner = turn.frame;
+                frames[depth] = frame;
                 put(&mut *report, place, 0)
             }
             Step::Close(opener, byte) => {
@@ -95,7 +117,6 @@ pub fn scan_thread(
                     return Verdict::Refused(Refusal::Nesting(offset));
                 }
                 depth -= 1;
-                inner = outer[depth];
                 put(&mut *report, place, 0);
                 put(&mut *report, opener, byte)
             }
