@@ -4,13 +4,18 @@
 --     bind-fine      going on with nothing changed
 --     require-bind   going on after a test
 --     require-ext    two ways to go on that agree wherever the test holds
+--     fine-inj, refused-inj, fine-not-refused    answers told apart
+--     judged-choose, judged-not                  a test's verdict
 --     bind-holds, bind-any, require-holds, holds-fine   a property of what is answered
 use Prim.Native.Nat.{ℕ}
 use mathlib.Core.Path.{_≡_, refl, subst}
 use native.Mathlib.Omega.{arith}
-use mathlib.Core.Bool.{Bool, true, false}
+use mathlib.Core.Bool.{Bool, true, false, not}
 use Rattle.program.specs.Choice.{Answer, fine, refused, _>>=_, require, choose}
 use Rattle.program.specs.declared.refusal.Refusal.{Refusal}
+use Rattle.judge.specs.Turns.{judged}
+use Rattle.judge.specs.declared.discipline.Verdict.the-variants.{Allowed, Refused}
+use Rattle.judge.specs.declared.lock_set.LockSet.{LockSet}
 
 -- what is answered has a property
 abbrev pub Holds : {A : Type 0} → (A → Type 0) → Answer A → Type 0
@@ -58,3 +63,23 @@ require-holds P false r m h = tt
 pub holds-fine : {A : Type 0} (P : A → Type 0) (m : Answer A) (a : A) → Holds P m → m ≡ fine a → P a
 holds-fine P (fine x) a h e = subst P (fine-inj x a e) h
 holds-fine P (refused r) a h e = absurd (let z : _≡_ {A = ℕ} 0 1 = cc in omega arith)
+
+pub refused-inj : {A : Type 0} (r q : Refusal) → _≡_ {A = Answer A} (refused r) (refused q) → r ≡ q
+refused-inj r q e = cc
+
+-- an answer is not both
+pub fine-not-refused : {A B : Type 0} (a : A) (r : Refusal) → refused r ≡ fine a → B
+fine-not-refused a r e = absurd (let z : _≡_ {A = ℕ} 0 1 = cc in let none : ⊥ = omega arith in none)
+
+pub holds-map : {A : Type 0} (P Q : A → Type 0) (m : Answer A) → Holds P m → ((a : A) → P a → Q a) → Holds Q m
+holds-map P Q (fine a) h f = f a h
+holds-map P Q (refused r) h f = tt
+
+-- a test's verdict, as an answer
+pub judged-choose : (ok : Bool) (r : Refusal) (s : LockSet) → judged (choose ok Allowed (Refused r)) s ≡ choose ok (fine s) (refused r)
+judged-choose true r s = refl
+judged-choose false r s = refl
+
+pub judged-not : (bad : Bool) (r : Refusal) (s : LockSet) → judged (choose (not bad) Allowed (Refused r)) s ≡ choose bad (refused r) (fine s)
+judged-not true r s = refl
+judged-not false r s = refl

@@ -29,7 +29,7 @@ use Rattle.program.specs.declared.refusal.Refusal.the-variants.{Nesting, SetsDi
 use Rattle.judge.specs.Discipline.{locksAfter, atomicityOf}
 use Rattle.judge.specs.Judging.{Judged, judge, isTop}
 use Rattle.judge.specs.LockSet.{same}
-use Rattle.judge.specs.Scan.{Carried, turn, turnBy, passing, opening, closing, refusing, atElse, atAgain, atEnd, follow, scan}
+use Rattle.judge.specs.Scan.{Carried, turn, turnBy, passing, opening, closing, refusing, follow, followBy, scan}
 use Rattle.judge.specs.declared.frame.Frame.{Frame}
 use Rattle.judge.specs.declared.frame.Part.{Part}
 use Rattle.judge.specs.declared.frame.Part.the-variants as part
@@ -111,11 +111,11 @@ module _ (p : Program) (t : ℕ) where
       ∙ sym (bind-assoc (judge p t d s c) _ _)
 
   -- one turn of a plain instruction
-  plain-turn : (d at : ℕ) (i : Instruction) (s : LockSet) (a : Atomicity) (f : Frame) (fs : List Frame) (report : List ℕ)
+  pub plain-turn : (d at : ℕ) (i : Instruction) (s : LockSet) (a : Atomicity) (f : Frame) (fs : List Frame) (report : List ℕ)
       → formOf i ≡ form.Plain
       → follow d at (carried s a f fs report) (turn p t d at i s a f)
         ≡ (locksAfter p t d i s >>= λ s′. fine (carried s′ (composition a (atomicityOf p t i)) f fs (set report at (reportByte (atomicityOf p t i)))))
-  unfolding turn turnBy follow
+  unfolding turn turnBy follow followBy
   plain-turn d at i s a f fs report e = rw e (go (locksAfter p t d i s))
     where
       go : (m : Answer LockSet)
@@ -141,7 +141,7 @@ module _ (p : Program) (t : ℕ) where
       (report : List ℕ) → turn p t d at i s a f ≡ opening part at s a → length fs < 16
       → scan p t d at (carried s a f fs report) (i ∷ is)
         ≡ scan p t (d + 4) (suc at) (carried s Both (opened part at s a) (f ∷ fs) (set report at 0)) is
-  unfolding scan follow
+  unfolding scan follow followBy
   open-scan part d at i is s a f fs report e h = rw (e, lt-ltb _ _ h)
 
   -- over the part that an opener opens
@@ -158,7 +158,7 @@ module _ (p : Program) (t : ℕ) where
       (go : Carried → Answer Carried)
       → (follow d at (carried s a f (g ∷ fs) report) (choose ok (closing b s′ f) (refusing refusal s a f)) >>= go)
         ≡ require ok refusal (go (carried s′ (composition (f .before) b) g fs (set (set report at 0) (f .opener) (reportByte b))))
-  unfolding follow
+  unfolding follow followBy
   close-turn true refusal d at s s′ a b f g fs report go = refl
   close-turn false refusal d at s s′ a b f g fs report go = refl
 
@@ -177,7 +177,7 @@ module _ (p : Program) (t : ℕ) where
         (λ v. reportByte b ∷ (inside ++ 0 ∷ v)) rest w h e₁ e₂ (λ v. sets-closed report at at₁ (reportByte b) inside v e₃)
 
   loop-agrees : (x : ℕ) (body c : Code) → Agrees body → Agrees c → Agrees (loop x body c)
-  unfolding flat judge size scan WellFormed depth turn turnBy formOf atAgain
+  unfolding flat judge size scan WellFormed depth turn turnBy formOf
   loop-agrees x body c inside next d at s a f fs report rest w h =
       let frame = opened part.Body at s a in
       let d₁ = d + 4 + 4 * size body in
@@ -198,7 +198,7 @@ module _ (p : Program) (t : ℕ) where
       ∙ sym (bind-assoc (judge p t (d + 4) s body) _ _)
 
   block-agrees : (body c : Code) → Agrees body → Agrees c → Agrees (block body c)
-  unfolding flat judge size scan WellFormed depth turn turnBy formOf atEnd
+  unfolding flat judge size scan WellFormed depth turn turnBy formOf
   block-agrees body c inside next d at s a f fs report rest w h =
       let frame = opened part.Block at s a in
       let d₁ = d + 4 + 4 * size body in
@@ -219,7 +219,7 @@ module _ (p : Program) (t : ℕ) where
       ∙ sym (bind-assoc (judge p t (d + 4) s body) _ _)
 
   choice-agrees : (x : ℕ) (one two c : Code) → Agrees one → Agrees two → Agrees c → Agrees (choice x one two c)
-  unfolding flat judge size scan WellFormed depth turn turnBy formOf atElse atEnd follow
+  unfolding flat judge size scan WellFormed depth turn turnBy formOf follow followBy
   choice-agrees x one two c first second next d at s a f fs report rest w h =
       let d₁ = d + 4 + 4 * size one in
       let d₂ = d₁ + 4 + 4 * size two in

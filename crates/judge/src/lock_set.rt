@@ -1,5 +1,7 @@
 // The locks that a thread holds at a place, as its text says (document 01, "Lock discipline").
 ghost use mathlib.Core.Path.{_≡_};
+ghost use mathlib.Core.Bool.{false};
+ghost use lib.ListN.{getD};
 ghost use Rattle.judge.specs.LockSet.{empty, holds, same, sameFlag, withLock, withoutLock};
 
 pub struct LockSet {
@@ -13,8 +15,19 @@ fn same_flag(a: bool, b: bool) -> bool
     if a { b } else { !b }
 }
 
+// Whether a lock is in the set with these flags. A number past them is no lock of any set.
+pub fn is_held(held: &[bool], k: u8) -> bool
+    ensures { λ r. ⌜ r ≡ getD (now (held .entry)) k false ⌝ }
+{
+    let i = k as usize;
+    if i < held.len() {
+        return held[i];
+    }
+    false
+}
+
 impl LockSet {
-    // The lock limit: each lock is below it, and a number that is not is no lock of any set.
+    // The lock limit: each lock is below it.
     pub const LIMIT: usize = 16;
 
     pub fn empty() -> LockSet
@@ -26,12 +39,7 @@ impl LockSet {
     pub fn holds(self, k: u8) -> bool
         ensures { λ r. ⌜ r ≡ holds self k ⌝ }
     {
-        let i = k as usize;
-        if i < LockSet::LIMIT {
-            self.held[i]
-        } else {
-            false
-        }
+        is_held(&self.held, k)
     }
 
     pub fn with(mut self, k: u8) -> LockSet

@@ -1,5 +1,8 @@
 -- Laws that belong to no one function.
 <<<<<<< HEAD
+<<<<<<< HEAD
+=======
+>>>>>>> ac6692381d7fffd3549985b37646c41f708c48ba
 --     Decode           what a decoded instruction's fields satisfy
 --     Contents         a file's contents by index
 --     Search           the search for the first offence
@@ -14,6 +17,7 @@
 --     StructureParse   ... from the scan to the code
 --     StructureScan    ... from the code to the scan
 --     Jumps            distances lead to places of the code
+<<<<<<< HEAD
 =======
 --     Decode     what a decoded instruction's fields satisfy
 --     Contents   a file's contents by index
@@ -25,6 +29,8 @@
 --     Steps      the steps of the definition of reading
 --     Sound      what a file that is read as sound holds
 >>>>>>> b33731d89e6131b47ea845233af9fd4911062f56
+=======
+>>>>>>> ac6692381d7fffd3549985b37646c41f708c48ba
 pub mod Decode
 pub mod Contents
 pub mod Search
@@ -32,7 +38,10 @@ pub mod Stack
 pub mod Scan
 pub mod Answers
 pub mod Sections
+<<<<<<< HEAD
 pub mod Steps
+=======
+>>>>>>> ac6692381d7fffd3549985b37646c41f708c48ba
 pub mod Sound
 pub mod StructureFlat
 pub mod StructureTurn

@@ -1,0 +1,103 @@
+-- The scan over the threads of a program is the rules over them. Assumes nothing.
+--     thread-size       a thread's report has a byte for each instruction, and one for the whole
+--     thread-agrees     one thread
+--     Nested            sections whose code is well nested
+--     threads-agree     the threads of such sections
+--     threads-size      how many bytes their reports have
+use Prim.Native.Nat.{ℕ, zero, suc, _+_, _*_, _≤_, _<_}
+use mathlib.Core.Path.{_≡_, refl, sym, _∙_, ap}
+use mathlib.Core.List.{List, [], _∷_, _++_, append-nil}
+use native.Mathlib.Omega.{arith}
+use lib.ListN.{length, set, length-append}
+use lib.Seq.{sets}
+use Rattle.atomicity.specs.Atomicity.{reportByte, composition}
+use Rattle.atomicity.specs.declared.Atomicity.{Atomicity}
+use Rattle.atomicity.specs.declared.Atomicity.the-variants.{Both}
+use Rattle.atomicity.proofs.Laws.{both-then}
+use Rattle.program.specs.Choice.{Answer, fine, refused, _>>=_, require}
+use Rattle.program.specs.Code.{Code, size, flat, structured}
+use Rattle.program.specs.Layout.{Program, CodeSection}
+use Rattle.program.specs.WellFormed.{Writes}
+use Rattle.program.specs.declared.instruction.Instruction.{Instruction}
+use Rattle.program.specs.declared.refusal.Refusal.the-variants.{SetsDiffer}
+use Rattle.program.proofs.StructureFlat.{length-flat}
+use Rattle.judge.specs.Judging.{Judged, judge, judgeThread, judgeThreads}
+use Rattle.judge.specs.LockSet.{empty, same}
+use Rattle.judge.specs.Scan.{Carried, scan, starting, wholeFrame, ending, scanThread, scanThreads}
+use Rattle.judge.proofs.Answers.{Holds, bind-assoc, bind-ext, bind-holds, require-bind, require-ext, require-holds, holds-fine}
+use Rattle.judge.proofs.Reports.{sets-append}
+use Rattle.judge.proofs.Scanning.{after, carried, report-size, scan-agrees}
+
+-- the size of the code that instructions write out
+size-of : (section : CodeSection) → Writes (section .code) (structured (section .code)) → size (structured (section .code)) ≡ length (section .code)
+size-of section w = sym (length-flat (structured (section .code))) ∙ ap (λ (is : List Instruction). length is) (w .flat-is)
+
+-- the code of each section is well nested
+abbrev pub Nested : List CodeSection → Type 0
+Nested [] = Unit
+Nested (section ∷ sections) = Writes (section .code) (structured (section .code)) × Nested sections
+
+-- how many bytes the sections' reports have
+abbrev pub reportSize : List CodeSection → ℕ
+reportSize [] = 0
+reportSize (section ∷ sections) = length (section .code) + 1 + reportSize sections
+
+module _ (p : Program) where
+  -- a byte for each instruction, and one for the whole
+  pub thread-size : (t : ℕ) (section : CodeSection) → Writes (section .code) (structured (section .code))
+      → Holds (λ (bytes : List ℕ). length bytes ≡ length (section .code) + 1) (judgeThread p t section)
+  unfolding judgeThread
+  thread-size t section w =
+      let c = structured (section .code) in
+      let size-is = size-of section w in
+      bind-holds _ _ (judge p t (section .start) empty c) _ (report-size p t c (section .start) empty) (λ r n.
+      require-holds _ (same (r .locks) empty) _ _ (simp length-append (omega arith)))
+
+  pub thread-agrees : (t at : ℕ) (report : List ℕ) (section : CodeSection) → Writes (section .code) (structured (section .code))
+      → scanThread p t at report section ≡ (judgeThread p t section >>= λ bytes. fine (sets report at bytes))
+  unfolding scanThread judgeThread starting scan ending
+  thread-agrees t at report section w =
+      let c = structured (section .code) in
+      let n = length (section .code) in
+      let end = section .start + 4 * n in
+      let size-is = size-of section w in
+      ap (λ (is : List Instruction). scan p t (section .start) at (starting report) is >>= ending end (at + n)) (sym (append-nil (flat c) ∙ w .flat-is))
+      ∙ ap (λ (m : Answer Carried). m >>= ending end (at + n))
+          (scan-agrees p t c (section .start) at empty Both wholeFrame [] report [] (w .well-formed) (omega (arith, w .shallow)))
+      ∙ bind-assoc (judge p t (section .start) empty c) _ (ending end (at + n))
+      ∙ bind-ext (judge p t (section .start) empty c) _ _ (λ r e.
+          let m = holds-fine _ (judge p t (section .start) empty c) r (report-size p t c (section .start) empty) e in
+          require-ext (same (r .locks) empty) (SetsDiffer end) _ _ (λ _.
+              let place : at + n ≡ at + length (r .report) = omega arith in
+              let last = reportByte (r .atomicity) in
+              ap (λ (a : Atomicity). fine (set (sets report at (r .report)) (at + n) (reportByte a))) (both-then (r .atomicity))
+              ∙ ap (λ (k : ℕ). fine (set (sets report at (r .report)) k last)) place
+              ∙ ap (λ (bytes : List ℕ). fine bytes) (sym (sets-append report at (r .report) (last ∷ []))))
+          ∙ sym (require-bind (same (r .locks) empty) (SetsDiffer end) _ _))
+      ∙ sym (bind-assoc (judge p t (section .start) empty c) _ _)
+
+  pub threads-agree : (t at : ℕ) (report : List ℕ) (sections : List CodeSection) → Nested sections
+      → scanThreads p t at report sections ≡ (judgeThreads p t sections >>= λ bytes. fine (sets report at bytes))
+  unfolding scanThreads judgeThreads
+  threads-agree t at report [] w = refl
+  threads-agree t at report (section ∷ sections) w =
+      let next = at + length (section .code) + 1 in
+      ap (λ (m : Answer (List ℕ)). m >>= λ left. scanThreads p (suc t) next left sections) (thread-agrees t at report section (w .0))
+      ∙ bind-assoc (judgeThread p t section) _ _
+      ∙ bind-ext (judgeThread p t section) _ _ (λ bytes e.
+          let n = holds-fine _ (judgeThread p t section) bytes (thread-size t section (w .0)) e in
+          let place : next ≡ at + length bytes = omega arith in
+          threads-agree (suc t) next (sets report at bytes) sections (w .1)
+          ∙ bind-ext (judgeThreads p (suc t) sections) _ _ (λ more _.
+              ap (λ (k : ℕ). fine (sets (sets report at bytes) k more)) place
+              ∙ ap (λ (left : List ℕ). fine left) (sym (sets-append report at bytes more)))
+          ∙ sym (bind-assoc (judgeThreads p (suc t) sections) _ _))
+      ∙ sym (bind-assoc (judgeThread p t section) _ _)
+
+  pub threads-size : (t : ℕ) (sections : List CodeSection) → Nested sections
+      → Holds (λ (bytes : List ℕ). length bytes ≡ reportSize sections) (judgeThreads p t sections)
+  unfolding judgeThreads
+  threads-size t [] w = refl
+  threads-size t (section ∷ sections) w =
+      bind-holds _ _ (judgeThread p t section) _ (thread-size t section (w .0)) (λ bytes n.
+      bind-holds _ _ (judgeThreads p (suc t) sections) _ (threads-size (suc t) sections (w .1)) (λ more m. simp length-append (omega arith)))

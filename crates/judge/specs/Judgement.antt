@@ -1,0 +1,27 @@
+-- What judging a file answers, and what it leaves in the report's buffer (document 01, "Who can bring a number about"; "Judge returns
+-- its length; later bytes are kept"). The buffer is large enough for every report; on a refusal nothing is said of its bytes, and the
+-- public calls hand none of them on.
+use Prim.Native.Nat.{ℕ}
+use mathlib.Core.Path.{_≡_}
+use mathlib.Core.List.{List, _++_}
+use lib.ListN.{length, drop}
+use Rattle.program.specs.Choice.{fine, refused}
+use Rattle.program.specs.Layout.{reading}
+use Rattle.program.specs.declared.layout.Layout.{Layout}
+use Rattle.program.specs.declared.layout.Reading.the-variants as reading
+use Rattle.judge.specs.Acceptance as acceptance
+use Rattle.judge.specs.Acceptance.{accept}
+use Rattle.judge.specs.declared.judging.Judging.{Judging}
+use Rattle.judge.specs.declared.judging.Judging.the-variants.{Accepted, Refused}
+
+-- the file s is accepted: its counts, its report's length, and the buffer before and after
+pub record AcceptedAs (s before after : List ℕ) (l : Layout) (n : ℕ) : Type 0 where
+  pub accepted : acceptance.Accepted
+  pub accepts : accept s ≡ fine accepted
+  pub reads : reading s ≡ reading.Sound l
+  pub size : n ≡ length (accepted .report)
+  pub bytes : after ≡ accepted .report ++ drop n before
+
+abbrev pub Judgement : (s before after : List ℕ) → Judging → Type 0
+Judgement s before after (Accepted l n) = AcceptedAs s before after l n
+Judgement s before after (Refused r) = accept s ≡ refused r

@@ -1,0 +1,198 @@
+// What an instruction that is no opener or closer may do, what it does to the lock set, and its atomicity (document 01, "Lock
+// discipline", "Atomicities").
+use atomicity::Atomicity;
+use program::instruction::Instruction;
+use program::layout::Layout;
+use program::refusal::Refusal;
+use program::variable::Kind;
+use crate::lock_set::LockSet;
+use crate::lock_set::is_held;
+ghost use mathlib.Core.Path.{_≡_};
+ghost use mathlib.Core.Bool.{false};
+ghost use Prim.Native.Nat.{_+_, _*_, _≤_};
+ghost use lib.ListN.{length};
+ghost use Rattle.program.specs.Choice.{choose};
+ghost use Rattle.program.specs.Layout.{programOf};
+ghost use Rattle.program.specs.declared.refusal.Refusal.the-variants.{Access};
+ghost use Rattle.judge.specs.Discipline.{kindAt, permits, accessAtomicity, locksAfter, atomicityOf};
+ghost use Rattle.judge.specs.declared.lock_set.LockSet.{LockSet};
+ghost use Rattle.judge.specs.Turns.{answerOf, judged, moved};
+
+pub enum Verdict {
+    Allowed,
+    Refused(Refusal),
+}
+
+// Whether an instruction is allowed, and if so the lock set after it. (An enum can hold no array, so the set stands beside it.)
+pub struct Locked {
+    pub verdict: Verdict,
+    pub locks: LockSet,
+}
+
+// The kind of variable v. A number that is no variable of the file has none to look up.
+pub fn kind_of(s: &[u8], l: Layout, v: u8) -> Kind
+    requires { ⌜ 5 + 6 * l .variables ≤ length (now s) ⌝ }
+    ensures { λ r. ⌜ r ≡ kindAt (programOf (now (s .entry)) l) v ⌝ }
+{
+    let i = v as usize;
+    if i < l.variables {
+        return program::variable::kind_at(s, 5 + 6 * i, l.locks, l.threads);
+    }
+    Kind::Open
+}
+
+// Whether a thread that holds these locks may read or write a variable of this kind.
+fn permits(kind: Kind, thread: usize, held: &[bool], writes: bool) -> bool
+    ensures { λ r. ⌜ r ≡ permits kind thread (record { held = now (held .entry) }) writes ⌝ }
+{
+    match kind {
+        Kind::Guarded(g) => is_held(held, g),
+        Kind::Own(g) => (g as usize) == thread,
+        Kind::Fixed => !writes,
+        Kind::Open => true,
+    }
+}
+
+fn checked(good: bool, refusal: Refusal) -> Verdict
+    ensures { λ r. ⌜ r ≡ choose good Verdict.Allowed (Verdict.Refused refusal) ⌝ }
+{
+    if good {
+        return Verdict::Allowed;
+    }
+    Verdict::Refused(refusal)
+}
+
+// A read or a write of variable v.
+fn access(s: &[u8], l: Layout, thread: usize, d: usize, v: u8, held: &[bool], writes: bool) -> Verdict
+    requires { ⌜ 5 + 6 * l .variables ≤ length (now s) ⌝ }
+    ensures {
+        λ r. ⌜ r ≡ choose (permits (kindAt (programOf (now (s .entry)) l) v) thread (record { held = now (held .entry) }) writes)
+            Verdict.Allowed (Verdict.Refused (Access d)) ⌝
+    }
+{
+    checked(permits(kind_of(s, l, v), thread, held, writes), Refusal::Access(d))
+}
+
+// What an instruction at file offset d offends, where the set with these flags is held.
+pub fn offence(s: &[u8], l: Layout, thread: usize, d: usize, i: Instruction, held: &[bool]) -> Verdict
+    requires { ⌜ 5 + 6 * l .variables ≤ length (now s) ⌝ }
+    ensures {
+        λ r. ⌜ judged r (moved i (record { held = now (held .entry) }))
+            ≡ locksAfter (programOf (now (s .entry)) l) thread d i (record { held = now (held .entry) }) ⌝
+    }
+{
+    match i {
+        Instruction::Set(_, _) => Verdict::Allowed,
+        Instruction::Copy(_, _) => Verdict::Allowed,
+        Instruction::Add(_, _, _) => Verdict::Allowed,
+        Instruction::Sub(_, _, _) => Verdict::Allowed,
+        Instruction::Less(_, _, _) => Verdict::Allowed,
+        Instruction::Read(_, v) => access(s, l, thread, d, v, held, false),
+        Instruction::Write(_, v) => access(s, l, thread, d, v, held, true),
+        Instruction::Take(k) => checked(!is_held(held, k), Refusal::Taken(d)),
+        Instruction::Give(k) => checked(is_held(held, k), Refusal::NotTaken(d)),
+        Instruction::If(_, _) => Verdict::Allowed,
+        Instruction::Else(_) => Verdict::Allowed,
+        Instruction::While(_, _) => Verdict::Allowed,
+        Instruction::Again(_) => Verdict::Allowed,
+        Instruction::Atomic(_) => Verdict::Allowed,
+        Instruction::End => Verdict::Allowed,
+    }
+}
+
+// Whether an instruction changes the lock set: the set is copied only where it does.
+pub fn moves(i: Instruction) -> bool
+    ensures { λ r. ⌜ (r ≡ false → (s : LockSet) → moved i s ≡ s) ⌝ }
+{
+    match i {
+        Instruction::Set(_, _) => false,
+        Instruction::Copy(_, _) => false,
+        Instruction::Add(_, _, _) => false,
+        Instruction::Sub(_, _, _) => false,
+        Instruction::Less(_, _, _) => false,
+        Instruction::Read(_, _) => false,
+        Instruction::Write(_, _) => false,
+        Instruction::Take(_) => true,
+        Instruction::Give(_) => true,
+        Instruction::If(_, _) => false,
+        Instruction::Else(_) => false,
+        Instruction::While(_, _) => false,
+        Instruction::Again(_) => false,
+        Instruction::Atomic(_) => false,
+        Instruction::End => false,
+    }
+}
+
+// The lock set after an instruction that offends nothing.
+pub fn move_locks(i: Instruction, locks: LockSet) -> LockSet
+    ensures { λ r. ⌜ r ≡ moved i locks ⌝ }
+{
+    match i {
+        Instruction::Set(_, _) => locks,
+        Instruction::Copy(_, _) => locks,
+        Instruction::Add(_, _, _) => locks,
+        Instruction::Sub(_, _, _) => locks,
+        Instruction::Less(_, _, _) => locks,
+        Instruction::Read(_, _) => locks,
+        Instruction::Write(_, _) => locks,
+        Instruction::Take(k) => locks.with(k),
+        Instruction::Give(k) => locks.without(k),
+        Instruction::If(_, _) => locks,
+        Instruction::Else(_) => locks,
+        Instruction::While(_, _) => locks,
+        Instruction::Again(_) => locks,
+        Instruction::Atomic(_) => locks,
+        Instruction::End => locks,
+    }
+}
+
+// The lock set after an instruction at file offset d, or what it offends.
+pub fn locks_after(s: &[u8], l: Layout, thread: usize, d: usize, i: Instruction, locks: LockSet) -> Locked
+    requires { ⌜ 5 + 6 * l .variables ≤ length (now s) ⌝ }
+    ensures { λ r. ⌜ answerOf r ≡ locksAfter (programOf (now (s .entry)) l) thread d i locks ⌝ }
+{
+    let verdict = offence(s, l, thread, d, i, &locks.held);
+    let after = move_locks(i, locks);
+    Locked {
+        verdict,
+        locks: after,
+    }
+}
+
+// The atomicity of a read or a write of variable v.
+fn access_atomicity(s: &[u8], l: Layout, thread: usize, v: u8, writes: bool) -> Atomicity
+    requires { ⌜ 5 + 6 * l .variables ≤ length (now s) ⌝ }
+    ensures { λ r. ⌜ r ≡ accessAtomicity (programOf (now (s .entry)) l) thread v writes ⌝ }
+{
+    let kind = kind_of(s, l, v);
+    match kind {
+        Kind::Guarded(_) => Atomicity::Both,
+        Kind::Own(_) => Atomicity::Both,
+        Kind::Fixed => Atomicity::Both,
+        Kind::Open => Atomicity::Atomic,
+    }
+}
+
+// The atomicity of an instruction.
+pub fn atomicity_of(s: &[u8], l: Layout, thread: usize, i: Instruction) -> Atomicity
+    requires { ⌜ 5 + 6 * l .variables ≤ length (now s) ⌝ }
+    ensures { λ r. ⌜ r ≡ atomicityOf (programOf (now (s .entry)) l) thread i ⌝ }
+{
+    match i {
+        Instruction::Set(_, _) => Atomicity::Both,
+        Instruction::Copy(_, _) => Atomicity::Both,
+        Instruction::Add(_, _, _) => Atomicity::Both,
+        Instruction::Sub(_, _, _) => Atomicity::Both,
+        Instruction::Less(_, _, _) => Atomicity::Both,
+        Instruction::Read(_, v) => access_atomicity(s, l, thread, v, false),
+        Instruction::Write(_, v) => access_atomicity(s, l, thread, v, true),
+        Instruction::Take(_) => Atomicity::Right,
+        Instruction::Give(_) => Atomicity::Left,
+        Instruction::If(_, _) => Atomicity::Both,
+        Instruction::Else(_) => Atomicity::Both,
+        Instruction::While(_, _) => Atomicity::Both,
+        Instruction::Again(_) => Atomicity::Both,
+        Instruction::Atomic(_) => Atomicity::Both,
+        Instruction::End => Atomicity::Both,
+    }
+}
