@@ -1,2 +1,3 @@
 -- What a reader must believe of demand 3.
 pub mod Demand
+pub mod Typing
