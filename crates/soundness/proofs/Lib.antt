@@ -1,2 +1,3 @@
 -- Demand 3.
 pub mod Typing
+pub mod Prefix

@@ -1,3 +1,5 @@
 -- What a reader must believe of demand 3.
 pub mod Demand
 pub mod Typing
+pub mod Prefix
+pub mod Annotation
