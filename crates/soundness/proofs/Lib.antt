@@ -1,3 +1,5 @@
 -- Demand 3.
 pub mod Typing
 pub mod Prefix
+pub mod Annotation
+pub mod Flow

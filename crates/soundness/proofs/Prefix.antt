@@ -76,6 +76,11 @@ pub proper-below : {m n : Prefix} → Below m n → Proper n → Proper m
 proper-below below-outer proper-outer = proper-outer
 proper-below (below-inner {x} {y} h) (proper-inner k) = proper-inner (not-top-below x y h k)
 
+-- so is the prefix at a block's END
+pub proper-entered : (m : Prefix) (a : Atomicity) → a ≢ Top → Proper (behind m a) → Proper (behind (entered m) a)
+proper-entered outer a n h = proper-inner (subst (λ (x : Atomicity). x ≢ Top) (sym (both-then a)) n)
+proper-entered (inner x) a n h = h
+
 -- ---- moves
 
 -- straight on

@@ -63,3 +63,8 @@ FlowsFrom p t h last from q = (registers : List ℕ) → let to = placeAfter (fr
 
 abbrev pub Flows : Program → ℕ → (ℕ → Row) → (last : ℕ) → ℕ → Type 0
 Flows p t h last q = FlowsFrom p t h last (h q) q
+
+-- code from place w to before v, begun with the lock set s and the prefix m, may be begun, and each of its moves follows
+pub record Part (p : Program) (t : ℕ) (h : ℕ → Row) (last : ℕ) (s : LockSet) (m : Prefix) (w v : ℕ) : Type 0 where
+  pub begun : Leads s m (h w)
+  pub moves : Span (Flows p t h last) w v

@@ -1,0 +1,80 @@
+-- Laws of a derivation written out flat: its length, its instructions; reading a list place by place; spans of places. Assumes nothing.
+use Prim.Native.Nat.{ℕ, zero, suc, _+_, _≤_, _<_}
+use native.Mathlib.Decide.{decLt}
+use native.Mathlib.Nat.{add-zero, suc-add, add-suc, zero-add}
+use native.Mathlib.Omega.{arith}
+use mathlib.Core.Path.{_≡_, refl, sym, ap, _∙_, subst}
+use mathlib.Core.Logic.{dite}
+use mathlib.Core.List.{List, [], _∷_, _++_, map}
+use lib.ListN.{length, getD, length-append}
+use Rattle.atomicity.specs.Atomicity.{join, closure}
+use Rattle.atomicity.specs.declared.Atomicity.{Atomicity}
+use Rattle.judge.specs.Discipline.{atomicityOf}
+use Rattle.judge.specs.declared.lock_set.LockSet.{LockSet}
+use Rattle.program.specs.Code.{Code, size, flat}
+use Rattle.program.specs.Layout.{Program}
+use Rattle.program.specs.declared.instruction.Instruction.{Instruction}
+use Rattle.program.specs.declared.instruction.Instruction.the-variants.{If, Else, While, Again, Atomic, End}
+use Rattle.soundness.specs.Annotation.{Row, row, rows, Reads, reads-nil, reads-cons, Span}
+use Rattle.soundness.specs.Prefix.{Prefix, behind, entered}
+use Rattle.soundness.specs.Typing.{Typed, typed-done, typed-plain, typed-choice, typed-loop, typed-block}
+
+-- ---- reading a list place by place
+
+module _ {A : Type 0} {h : ℕ → A} where
+  pub reads-head : {w : ℕ} {x : A} {l : List A} → Reads h w (x ∷ l) → h w ≡ x
+  reads-head (reads-cons e r) = e
+
+  pub reads-tail : {w : ℕ} {x : A} {l : List A} → Reads h w (x ∷ l) → Reads h (suc w) l
+  reads-tail (reads-cons e r) = r
+
+  pub reads-first : {w : ℕ} (l k : List A) → Reads h w (l ++ k) → Reads h w l
+  reads-first [] k r = reads-nil
+  reads-first (x ∷ l) k (reads-cons e r) = reads-cons e (reads-first l k r)
+
+  reads-second : {w : ℕ} (l : List A) {k : List A} → Reads h w (l ++ k) → Reads h (w + length l) k
+  reads-second {w} [] {k} r = subst (λ (v : ℕ). Reads h v k) (sym (add-zero w)) r
+  reads-second {w} (x ∷ l) {k} (reads-cons e r) = subst (λ (v : ℕ). Reads h v k) (omega arith) (reads-second l r)
+
+  -- where the first list has this length
+  pub reads-rest : {w : ℕ} (l : List A) {k : List A} {n : ℕ} → length l ≡ n → Reads h w (l ++ k) → Reads h (w + n) k
+  reads-rest {w} l {k} e r = subst (λ (n : ℕ). Reads h (w + n) k) e (reads-second l r)
+
+reads-shift : {A : Type 0} {h k : ℕ → A} {w : ℕ} (v : ℕ) {l : List A} → ((q : ℕ) → k (v + q) ≡ h q) → Reads h w l → Reads k (v + w) l
+reads-shift v f reads-nil = reads-nil
+reads-shift {h} {k} v f (reads-cons {w} {x} {l} e r) =
+    reads-cons (f w ∙ e) (subst (λ (u : ℕ). Reads k u l) (add-suc v w) (reads-shift v f r))
+
+-- a list, read by place, is itself
+pub reads-list : {A : Type 0} (d : A) (l : List A) → Reads (λ (q : ℕ). getD l q d) 0 l
+reads-list d [] = reads-nil
+reads-list d (x ∷ l) =
+    reads-cons refl
+    (reads-shift {h = λ (q : ℕ). getD l q d} {k = λ (q : ℕ). getD (x ∷ l) q d} {w = 0} 1 (λ q. rw (suc-add 0 q, zero-add q)) (reads-list d l))
+
+-- ---- spans
+
+module _ (P : ℕ → Type 0) where
+  pub span-empty : (w : ℕ) → Span P w w
+  span-empty w q h k = absurd (omega arith)
+
+  pub span-one : (w : ℕ) → P w → Span P w (suc w)
+  span-one w x q h k = subst P (omega arith) x
+
+  pub span-join : {w u v : ℕ} → Span P w u → Span P u v → Span P w v
+  span-join {u} f g q h k = dite (decLt q u) (λ (l : q < u). f q h l) (λ (n : ¬ (q < u)). g q (omega arith) k)
+
+-- ---- the rows
+
+module _ {p : Program} {t : ℕ} where
+  -- one for each instruction
+  pub length-rows : {s s′ : LockSet} {c : Code} {a : Atomicity} (d : Typed p t s c s′ a) (m : Prefix) → length (rows d m) ≡ size c
+  unfolding rows size
+  length-rows typed-done m = refl
+  length-rows (typed-plain {i} f l d) m = omega (arith, length-rows d (behind m (atomicityOf p t i)))
+  length-rows (typed-choice {x} {y} d₁ d₂ d) m =
+      simp (length-append) (omega (arith, length-rows d₁ m, length-rows d₂ m, length-rows d (behind m (join x y))))
+  length-rows (typed-loop {x} d₁ d) m =
+      simp (length-append) (omega (arith, length-rows d₁ (behind m (closure x)), length-rows d (behind m (closure x))))
+  length-rows (typed-block {x} d₁ n d) m =
+      simp (length-append) (omega (arith, length-rows d₁ (entered m), length-rows d (behind m x)))

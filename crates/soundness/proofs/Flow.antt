@@ -1,0 +1,219 @@
+-- Wherever a thread goes from a place of typed code, the row there follows (`flow`). Assumes nothing.
+use Prim.Native.Nat.{ℕ, zero, suc, _+_, _-_, _≤_, _<_}
+use native.Mathlib.Nat.{add-zero}
+use native.Mathlib.Omega.{arith}
+use mathlib.Core.Path.{_≡_, refl, sym, ap, _∙_, subst}
+use mathlib.Core.Bool.{Bool, true, false}
+use mathlib.Core.List.{List, [], _∷_, _++_}
+use lib.Dec.{eqb}
+use Rattle.atomicity.specs.Atomicity.{composition, join, closure}
+use Rattle.atomicity.specs.declared.Atomicity.{Atomicity}
+use Rattle.atomicity.specs.declared.Atomicity.the-variants.{Both}
+use Rattle.judge.specs.Discipline.{locksAfter, atomicityOf}
+use Rattle.judge.specs.declared.lock_set.LockSet.{LockSet}
+use Rattle.machine.specs.Step.{placeAfter, branch, reg}
+use Rattle.program.specs.Choice.{fine, choose}
+use Rattle.program.specs.Code.{Code, size}
+use Rattle.program.specs.Instruction.{formOf}
+use Rattle.program.specs.Layout.{Program}
+use Rattle.program.specs.declared.instruction.Form.the-variants.{Plain}
+use Rattle.program.specs.declared.instruction.Form.the-variants as form
+use Rattle.program.specs.declared.instruction.Instruction.{Instruction}
+use Rattle.program.specs.declared.instruction.Instruction.the-variants.{Set, Copy, Add, Sub, Less, Read, Write, Take, Give, If, Else, While, Again, Atomic, End}
+use Rattle.soundness.specs.Annotation.{Row, row, rows, Reads, Span, Follows, Leads, FlowsFrom, Flows, Part}
+use Rattle.soundness.specs.Prefix.{Prefix, outer, inner, behind, entered, Below, Proper, proper-outer, proper-inner, Goes}
+use Rattle.soundness.specs.Typing.{Legal, Typed, typed-done, typed-plain, typed-choice, typed-loop, typed-block}
+use Rattle.soundness.proofs.Annotation.{reads-head, reads-tail, reads-first, reads-rest, span-empty, span-one, span-join, length-rows}
+use Rattle.soundness.proofs.Prefix.{behind-both, behind-behind, below-refl, below-behind, below-first, below-second, below-turn, proper-below, goes-behind, goes-in, goes-out, proper-entered}
+
+-- a plain instruction goes to the next place
+plain-next : (i : Instruction) → formOf i ≡ Plain → (r : List ℕ) (q : ℕ) → placeAfter i r q ≡ q + 1
+unfolding formOf placeAfter
+plain-next (Set a n) e r q = refl
+plain-next (Copy a b) e r q = refl
+plain-next (Add a b c) e r q = refl
+plain-next (Sub a b c) e r q = refl
+plain-next (Less a b c) e r q = refl
+plain-next (Read a v) e r q = refl
+plain-next (Write a v) e r q = refl
+plain-next (Take k) e r q = refl
+plain-next (Give k) e r q = refl
+plain-next (If a n) e r q = absurd (let z : _≡_ {A = ℕ} 0 1 = cc in omega arith)
+plain-next (Else n) e r q = absurd (let z : _≡_ {A = ℕ} 0 1 = cc in omega arith)
+plain-next (While a n) e r q = absurd (let z : _≡_ {A = ℕ} 0 1 = cc in omega arith)
+plain-next (Again n) e r q = absurd (let z : _≡_ {A = ℕ} 0 1 = cc in omega arith)
+plain-next (Atomic n) e r q = refl
+plain-next End e r q = refl
+
+-- IF and WHILE go to one of two places
+branches : (P : ℕ → Type 0) (r : List ℕ) (a n q : ℕ) → P (q + n + 1) → P (q + 1) → P (branch r a n q)
+unfolding branch
+branches P r a n q x y = by-test (eqb (reg r a) 0)
+  where
+    by-test : (b : Bool) → P (choose b (q + n + 1) (q + 1))
+    by-test true = x
+    by-test false = y
+
+module _ (p : Program) (t : ℕ) where
+  -- an opener or closer keeps the lock set
+  keeps : (i : Instruction) {s s′ : LockSet} → locksAfter p t 0 i s ≡ fine s → s ≡ s′ → Legal p t i s s′
+  keeps i e k = record { offset = 0; judged = e ∙ ap fine k }
+
+  -- an opener or closer that goes on in the same block is B
+  silent : (i : Instruction) {s : LockSet} {m : Prefix} {to : Row} → locksAfter p t 0 i s ≡ fine s → atomicityOf p t i ≡ Both
+      → Leads s m to → Proper m → Follows p t (row i s m) to
+  silent i {m} l e k h = record
+    { legal = keeps i l (k .same)
+    ; goes = rw e (goes-behind m (rw (behind-both m) (k .below)) (rw (behind-both m) h))
+    }
+
+  module _ (h : ℕ → Row) (last : ℕ) where
+    -- the move arrives at a place of the code, and the row there follows
+    abbrev Arrives : Row → ℕ → Type 0
+    Arrives from to = Follows p t from (h to) × (to ≤ last)
+
+    -- a row's flow is the flow from what is read there
+    flows-at : {from : Row} (q : ℕ) → h q ≡ from → FlowsFrom p t h last from q → Span (Flows p t h last) q (suc q)
+    flows-at q e f = span-one (Flows p t h last) q (subst (λ (r : Row). FlowsFrom p t h last r q) (sym e) f)
+
+    -- code may go on at what is read there
+    leads-at : {s : LockSet} {i : Instruction} {m n : Prefix} {q : ℕ} → h q ≡ row i s n → Below m n → Leads s m (h q)
+    leads-at {s} {m} e l = subst (Leads s m) (sym e) (record { same = refl; below = l })
+
+    -- ---- each construct, from its parts
+
+    done-part : {s : LockSet} {m : Prefix} {w : ℕ} → Leads s (behind m Both) (h w) → Part p t h last s m w w
+    done-part {s} {m} {w} l = record { begun = subst (λ (n : Prefix). Leads s n (h w)) (behind-both m) l; moves = span-empty (Flows p t h last) w }
+
+    plain-part : {i : Instruction} {s s′ : LockSet} {m : Prefix} {w v : ℕ} → formOf i ≡ Plain → Legal p t i s s′ → h w ≡ row i s m
+        → Proper (behind m (atomicityOf p t i)) → w < last → Part p t h last s′ (behind m (atomicityOf p t i)) (suc w) v → Part p t h last s m w v
+    plain-part {i} {s} {m} {w} f l e k b rest = record
+      { begun = leads-at e (below-refl m)
+      ; moves = span-join (Flows p t h last)
+          (flows-at w e λ r. subst (Arrives (row i s m)) (omega (arith, plain-next i f r w))
+            (record { legal = subst (Legal p t i s) (rest .begun .same) l; goes = goes-behind m (rest .begun .below) k }, b))
+          (rest .moves)
+      }
+
+    choice-part : {r n k : ℕ} {s s′ : LockSet} {m : Prefix} (x y : Atomicity) {w e f v : ℕ}
+        → h w ≡ row (If r n) s m → w + n ≡ e → Part p t h last s m (suc w) e
+        → h e ≡ row (Else k) s′ (behind m x) → e + k ≡ f → Part p t h last s m (suc e) f
+        → h f ≡ row End s′ (behind m (join x y)) → f < last → Part p t h last s′ (behind m (join x y)) (suc f) v
+        → Proper (behind m (join x y)) → Part p t h last s m w v
+    unfolding placeAfter locksAfter atomicityOf
+    choice-part {r} {n} {k} {s} {s′} {m} x y {w} {e} {f} h₁ e₁ first h₂ e₂ second h₃ b rest proper =
+        let right = proper-below (below-first m x y) proper in
+        record
+        { begun = leads-at h₁ (below-refl m)
+        ; moves =
+            span-join (Flows p t h last) (flows-at w h₁ λ reg.
+              let on = silent (If r n) refl refl (first .begun) (proper-below (below-behind m x) right) in
+              let off = silent (If r n) refl refl (second .begun) (proper-below (below-behind m x) right) in
+              branches (Arrives (row (If r n) s m)) reg r n w
+              (subst (Arrives (row (If r n) s m)) (omega arith) (off, omega arith))
+              (subst (Arrives (row (If r n) s m)) (omega arith) (on, omega arith)))
+            (span-join (Flows p t h last) (first .moves)
+            (span-join (Flows p t h last) (flows-at e h₂ λ reg.
+              subst (Arrives (row (Else k) s′ (behind m x))) (sym e₂)
+              (silent (Else k) refl refl (leads-at h₃ (below-first m x y)) right, omega arith))
+            (span-join (Flows p t h last) (second .moves)
+            (span-join (Flows p t h last) (flows-at f h₃ λ reg.
+              subst (Arrives (row End s′ (behind m (join x y)))) (omega arith)
+              (silent End refl refl (rest .begun) proper, b))
+            (rest .moves)))))
+        }
+
+    loop-part : {r n : ℕ} {s : LockSet} (m : Prefix) (x : Atomicity) {w e v : ℕ}
+        → h w ≡ row (While r n) s (behind m (closure x)) → w + n ≡ e → Part p t h last s (behind m (closure x)) (suc w) e
+        → h e ≡ row (Again n) s (behind (behind m (closure x)) x) → e < last → Part p t h last s (behind m (closure x)) (suc e) v
+        → Proper (behind m (closure x)) → Part p t h last s m w v
+    unfolding placeAfter locksAfter atomicityOf
+    loop-part {r} {n} {s} m x {w} {e} h₁ e₁ body h₂ b rest proper =
+        let from = row (While r n) s (behind m (closure x)) in
+        record
+        { begun = leads-at h₁ (below-behind m (closure x))
+        ; moves =
+            span-join (Flows p t h last) (flows-at w h₁ λ reg.
+              branches (Arrives from) reg r n w
+              (subst (Arrives from) (omega arith) (silent (While r n) refl refl (rest .begun) proper, b))
+              (subst (Arrives from) (omega arith) (silent (While r n) refl refl (body .begun) proper, omega arith)))
+            (span-join (Flows p t h last) (body .moves)
+            (span-join (Flows p t h last) (flows-at e h₂ λ reg.
+              subst (Arrives (row (Again n) s (behind (behind m (closure x)) x))) (omega arith)
+              (silent (Again n) refl refl (leads-at h₁ (below-turn m x)) (proper-below (below-turn m x) proper), omega arith))
+            (rest .moves)))
+        }
+
+    block-part : {n : ℕ} {s s′ : LockSet} (m : Prefix) (x : Atomicity) {w e v : ℕ}
+        → h w ≡ row (Atomic n) s m → w + n ≡ e → Part p t h last s (entered m) (suc w) e
+        → h e ≡ row End s′ (behind (entered m) x) → e < last → Part p t h last s′ (behind m x) (suc e) v
+        → Proper (behind m x) → Part p t h last s m w v
+    unfolding placeAfter locksAfter atomicityOf
+    block-part {n} {s} {s′} m x {w} {e} h₁ e₁ body h₂ b rest proper =
+        record
+        { begun = leads-at h₁ (below-refl m)
+        ; moves =
+            span-join (Flows p t h last) (flows-at w h₁ λ reg.
+              subst (Arrives (row (Atomic n) s m)) (omega arith)
+              (record
+                { legal = keeps (Atomic n) refl (body .begun .same)
+                ; goes = goes-in m (body .begun .below) (proper-below (below-behind m x) proper)
+                }, omega arith))
+            (span-join (Flows p t h last) (body .moves)
+            (span-join (Flows p t h last) (flows-at e h₂ λ reg.
+              subst (Arrives (row End s′ (behind (entered m) x))) (omega arith)
+              (record { legal = keeps End refl (rest .begun .same); goes = goes-out m x (rest .begun .below) proper }, b))
+            (rest .moves)))
+        }
+
+    -- ---- the whole code
+
+    proper-then : (m : Prefix) (a b : Atomicity) → Proper (behind m (composition a b)) → Proper (behind (behind m a) b)
+    proper-then m a b k = rw (behind-behind m a b) k
+
+    leads-then : {s : LockSet} {to : Row} (m : Prefix) (a b : Atomicity) → Leads s (behind m (composition a b)) to → Leads s (behind (behind m a) b) to
+    leads-then m a b k = rw (behind-behind m a b) k
+
+    pub flow : {s s′ : LockSet} {c : Code} {a : Atomicity} (d : Typed p t s c s′ a) (m : Prefix) (w v : ℕ) → w + size c ≡ v
+        → Reads h w (rows d m) → Leads s′ (behind m a) (h v) → v ≤ last → Proper (behind m a) → Part p t h last s m w v
+    unfolding rows size
+    flow {s} typed-done m w v e r exit fits proper =
+        let here : v ≡ w = omega arith in
+        subst (Part p t h last s m w) (sym here) (done-part (subst (λ (q : ℕ). Leads s (behind m Both) (h q)) here exit))
+    flow (typed-plain {i} {a} f l d) m w v e r exit fits proper =
+        let n = behind m (atomicityOf p t i) in
+        plain-part f l (reads-head r) (proper-below (below-behind n a) (proper-then m (atomicityOf p t i) a proper)) (omega arith)
+        (flow d n (suc w) v (omega arith) (reads-tail r) (leads-then m (atomicityOf p t i) a exit) fits (proper-then m (atomicityOf p t i) a proper))
+    flow (typed-choice {r = reg} {a} {b} {s} {s′ = s₁} {x} {y} {z} d₁ d₂ d) m w v e r exit fits proper =
+        let n = behind m (join x y) in
+        let properₙ = proper-below (below-behind n z) (proper-then m (join x y) z proper) in
+        let r₁ = reads-tail r in
+        let r₂ = reads-rest (rows d₁ m) (length-rows d₁ m) r₁ in
+        let r₃ = reads-rest (rows d₂ m) (length-rows d₂ m) (reads-tail r₂) in
+        choice-part x y (reads-head r) (omega arith)
+        (flow d₁ m (suc w) (suc w + size a) refl (reads-first (rows d₁ m) _ r₁) (leads-at (reads-head r₂) (below-refl (behind m x))) (omega arith) (proper-below (below-first m x y) properₙ))
+        (reads-head r₂) (omega arith)
+        (flow d₂ m (suc (suc w + size a)) (suc (suc w + size a) + size b) refl (reads-first (rows d₂ m) _ (reads-tail r₂)) (leads-at (reads-head r₃) (below-second m x y)) (omega arith) (proper-below (below-second m x y) properₙ))
+        (reads-head r₃) (omega arith)
+        (flow d n _ v (omega arith) (reads-tail r₃) (leads-then m (join x y) z exit) fits (proper-then m (join x y) z proper))
+        properₙ
+    flow (typed-loop {r = reg} {a} {c} {x} {z} d₁ d) m w v e r exit fits proper =
+        let n = behind m (closure x) in
+        let properₙ = proper-below (below-behind n z) (proper-then m (closure x) z proper) in
+        let r₁ = reads-tail r in
+        let r₂ = reads-rest (rows d₁ n) (length-rows d₁ n) r₁ in
+        loop-part m x (reads-head r) (omega arith)
+        (flow d₁ n (suc w) (suc w + size a) refl (reads-first (rows d₁ n) _ r₁) (leads-at (reads-head r₂) (below-refl (behind n x))) (omega arith) (proper-below (below-turn m x) properₙ))
+        (reads-head r₂) (omega arith)
+        (flow d n _ v (omega arith) (reads-tail r₂) (leads-then m (closure x) z exit) fits (proper-then m (closure x) z proper))
+        properₙ
+    flow (typed-block {a} {c} {s′ = s₁} {x} {z} d₁ top d) m w v e r exit fits proper =
+        let n = behind m x in
+        let properₙ = proper-below (below-behind n z) (proper-then m x z proper) in
+        let r₁ = reads-tail r in
+        let r₂ = reads-rest (rows d₁ (entered m)) (length-rows d₁ (entered m)) r₁ in
+        block-part m x (reads-head r) (omega arith)
+        (flow d₁ (entered m) (suc w) (suc w + size a) refl (reads-first (rows d₁ (entered m)) _ r₁) (leads-at (reads-head r₂) (below-refl (behind (entered m) x))) (omega arith) (proper-entered m x top properₙ))
+        (reads-head r₂) (omega arith)
+        (flow d n _ v (omega arith) (reads-tail r₂) (leads-then m x z exit) fits (proper-then m x z proper))
+        properₙ
