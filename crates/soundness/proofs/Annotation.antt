@@ -11,13 +11,26 @@ use Rattle.atomicity.specs.Atomicity.{join, closure}
 use Rattle.atomicity.specs.declared.Atomicity.{Atomicity}
 use Rattle.judge.specs.Discipline.{atomicityOf}
 use Rattle.judge.specs.declared.lock_set.LockSet.{LockSet}
-use Rattle.program.specs.Code.{Code, size, flat}
+use Rattle.program.specs.Code.{Code, done, plain, choice, loop, block, size, flat}
 use Rattle.program.specs.Layout.{Program}
 use Rattle.program.specs.declared.instruction.Instruction.{Instruction}
 use Rattle.program.specs.declared.instruction.Instruction.the-variants.{If, Else, While, Again, Atomic, End}
+use Rattle.reduction.specs.Sequence.{All, all-nil, all-cons}
 use Rattle.soundness.specs.Annotation.{Row, row, rows, Reads, reads-nil, reads-cons, Span}
 use Rattle.soundness.specs.Prefix.{Prefix, behind, entered}
 use Rattle.soundness.specs.Typing.{Typed, typed-done, typed-plain, typed-choice, typed-loop, typed-block}
+
+-- ---- spans
+
+module _ (P : ℕ → Type 0) where
+  pub span-empty : (w : ℕ) → Span P w w
+  span-empty w q h k = absurd (omega arith)
+
+  pub span-one : (w : ℕ) → P w → Span P w (suc w)
+  span-one w x q h k = subst P (omega arith) x
+
+  pub span-join : {w u v : ℕ} → Span P w u → Span P u v → Span P w v
+  span-join {u} f g q h k = dite (decLt q u) (λ (l : q < u). f q h l) (λ (n : ¬ (q < u)). g q (omega arith) k)
 
 -- ---- reading a list place by place
 
@@ -52,17 +65,16 @@ reads-list d (x ∷ l) =
     reads-cons refl
     (reads-shift {h = λ (q : ℕ). getD l q d} {k = λ (q : ℕ). getD (x ∷ l) q d} {w = 0} 1 (λ q. rw (suc-add 0 q, zero-add q)) (reads-list d l))
 
--- ---- spans
+-- what holds of each element holds from place to place
+pub reads-all : {A : Type 0} {h : ℕ → A} (P : A → Type 0) {w : ℕ} {l : List A} → Reads h w l → All P l → Span (λ (q : ℕ). P (h q)) w (w + length l)
+reads-all {h} P {w} reads-nil all-nil = λ q b k. absurd (omega arith)
+reads-all {h} P {w} (reads-cons {l} e r) (all-cons x a) =
+    let next : suc w + length l ≡ w + suc (length l) = omega arith in
+    span-join (λ (q : ℕ). P (h q)) (span-one (λ (q : ℕ). P (h q)) w (subst P (sym e) x)) (subst (Span (λ (q : ℕ). P (h q)) (suc w)) next (reads-all P r a))
 
-module _ (P : ℕ → Type 0) where
-  pub span-empty : (w : ℕ) → Span P w w
-  span-empty w q h k = absurd (omega arith)
-
-  pub span-one : (w : ℕ) → P w → Span P w (suc w)
-  span-one w x q h k = subst P (omega arith) x
-
-  pub span-join : {w u v : ℕ} → Span P w u → Span P u v → Span P w v
-  span-join {u} f g q h k = dite (decLt q u) (λ (l : q < u). f q h l) (λ (n : ¬ (q < u)). g q (omega arith) k)
+pub all-append : {A : Type 0} {P : A → Type 0} {l k : List A} → All P l → All P k → All P (l ++ k)
+all-append all-nil b = b
+all-append (all-cons x a) b = all-cons x (all-append a b)
 
 -- ---- the rows
 
@@ -78,3 +90,13 @@ module _ {p : Program} {t : ℕ} where
       simp (length-append) (omega (arith, length-rows d₁ (behind m (closure x)), length-rows d (behind m (closure x))))
   length-rows (typed-block {x} d₁ n d) m =
       simp (length-append) (omega (arith, length-rows d₁ (entered m), length-rows d (behind m x)))
+
+-- ---- the flat writing
+
+pub length-flat : (c : Code) → length (flat c) ≡ size c
+unfolding flat size
+length-flat done = refl
+length-flat (plain i c) = omega (arith, length-flat c)
+length-flat (choice r a b c) = simp (length-append, length-flat a, length-flat b, length-flat c) (omega arith)
+length-flat (loop r a c) = simp (length-append, length-flat a, length-flat c) (omega arith)
+length-flat (block a c) = simp (length-append, length-flat a, length-flat c) (omega arith)

@@ -3,3 +3,4 @@ pub mod Typing
 pub mod Prefix
 pub mod Annotation
 pub mod Flow
+pub mod Coverage

@@ -1,0 +1,239 @@
+-- A place of typed code is covered by an ATOMIC exactly if its row has an inner prefix (`coverage`). Assumes nothing.
+use Prim.Native.Nat.{ℕ, zero, suc, _+_, _≤_, _<_}
+use native.Mathlib.Nat.{add-zero}
+use native.Mathlib.Omega.{arith}
+use borrow.Author.Tests.{lt-ltb, le-ltb, le-leb, lt-leb}
+use mathlib.Core.Path.{_≡_, refl, sym, ap, _∙_, subst}
+use mathlib.Core.Bool.{Bool, true, false, _&&_, _||_}
+use mathlib.Core.List.{List, [], _∷_, _++_}
+use lib.ListN.{length, length-append}
+use lib.Dec.{ltb, leb}
+use Rattle.atomicity.specs.Atomicity.{composition, join, closure}
+use Rattle.atomicity.specs.declared.Atomicity.{Atomicity}
+use Rattle.atomicity.specs.declared.Atomicity.the-variants.{Both}
+use Rattle.judge.specs.Discipline.{atomicityOf}
+use Rattle.judge.specs.declared.lock_set.LockSet.{LockSet}
+use Rattle.machine.specs.Block.{covers, coveredFrom}
+use Rattle.program.specs.Code.{Code, done, plain, choice, loop, block, size, flat}
+use Rattle.program.specs.Instruction.{formOf}
+use Rattle.program.specs.Layout.{Program}
+use Rattle.program.specs.declared.instruction.Form.{Form}
+use Rattle.program.specs.declared.instruction.Form.the-variants.{Plain}
+use Rattle.program.specs.declared.instruction.Form.the-variants as form
+use Rattle.program.specs.declared.instruction.Instruction.{Instruction}
+use Rattle.program.specs.declared.instruction.Instruction.the-variants.{If, Else, While, Again, Atomic, End}
+use Rattle.reduction.specs.Sequence.{All, all-nil, all-cons}
+use Rattle.soundness.specs.Annotation.{Row, row, rows, Reads, Span}
+use Rattle.soundness.specs.Prefix.{Prefix, outer, inner, isInner, behind, entered}
+use Rattle.soundness.specs.Typing.{Typed, typed-done, typed-plain, typed-choice, typed-loop, typed-block}
+use Rattle.soundness.proofs.Annotation.{reads-head, reads-tail, reads-first, reads-rest, reads-all, all-append, span-empty, span-one, span-join, length-rows, length-flat}
+
+-- ---- covered by some instruction of a list
+
+or-false : (a b : Bool) → a ≡ false → b ≡ false → (a || b) ≡ false
+or-false a b e f = rw (e, f)
+
+or-left : (a b : Bool) → b ≡ false → (a || b) ≡ a
+or-left true b e = refl
+or-left false b e = e
+
+or-right : (a b : Bool) → a ≡ false → (a || b) ≡ b
+or-right a b e = rw e
+
+or-true : (a b : Bool) → a ≡ true → (a || b) ≡ true
+or-true a b e = rw e
+
+and-false : (a : Bool) → (a && false) ≡ false
+and-false true = refl
+and-false false = refl
+
+-- not by what comes at or behind the place
+covers-before : (w : ℕ) (f : Form) (q : ℕ) → q ≤ w → covers w f q ≡ false
+unfolding covers
+covers-before w Plain q h = refl
+covers-before w (form.If a n) q h = refl
+covers-before w (form.Else n) q h = refl
+covers-before w (form.While a n) q h = refl
+covers-before w (form.Again n) q h = refl
+covers-before w (form.Atomic n) q h = ap (λ (b : Bool). b && leb q (w + n)) (le-ltb w q h)
+covers-before w form.End q h = refl
+
+covered-before : (is : List Instruction) (w q : ℕ) → q ≤ w → coveredFrom w is q ≡ false
+unfolding coveredFrom
+covered-before [] w q h = refl
+covered-before (i ∷ is) w q h = or-false (covers w (formOf i) q) (coveredFrom (suc w) is q) (covers-before w (formOf i) q h) (covered-before is (suc w) q (omega arith))
+
+-- by the first part or by the second
+or-assoc : (a b c : Bool) → (a || (b || c)) ≡ ((a || b) || c)
+or-assoc true b c = refl
+or-assoc false b c = refl
+
+covered-append : (l k : List Instruction) (w q : ℕ) → coveredFrom w (l ++ k) q ≡ (coveredFrom w l q || coveredFrom (w + length l) k q)
+unfolding coveredFrom
+covered-append [] k w q = ap (λ (v : ℕ). coveredFrom v k q) (sym (add-zero w))
+covered-append (i ∷ l) k w q =
+    let next : suc w + length l ≡ w + suc (length l) = omega arith in
+    ap (λ (b : Bool). covers w (formOf i) q || b) (covered-append l k (suc w) q ∙ ap (λ (v : ℕ). coveredFrom (suc w) l q || coveredFrom v k q) next)
+    ∙ or-assoc (covers w (formOf i) q) (coveredFrom (suc w) l q) (coveredFrom (w + suc (length l)) k q)
+
+-- code, and what comes behind it
+covered-behind : (c : Code) (k : List Instruction) (w q : ℕ) → coveredFrom w (flat c ++ k) q ≡ (coveredFrom w (flat c) q || coveredFrom (w + size c) k q)
+covered-behind c k w q = covered-append (flat c) k w q ∙ ap (λ (n : ℕ). coveredFrom w (flat c) q || coveredFrom (w + n) k q) (length-flat c)
+
+-- an ATOMIC covers nothing past its END
+covers-past : (w n q : ℕ) → w + n < q → covers w (form.Atomic n) q ≡ false
+unfolding covers
+covers-past w n q h = rw (lt-leb q (w + n) h) (and-false (ltb w q))
+
+-- and everything up to it
+covers-inside : (w n q : ℕ) → w < q → q ≤ w + n → covers w (form.Atomic n) q ≡ true
+unfolding covers
+covers-inside w n q h k = rw (lt-ltb w q h, le-leb q (w + n) k)
+
+-- ---- each construct
+
+covered-nil : (w q : ℕ) → coveredFrom w (flat done) q ≡ false
+unfolding flat coveredFrom
+covered-nil w q = refl
+
+covered-plain : (i : Instruction) (c : Code) (w q : ℕ) → formOf i ≡ Plain → coveredFrom w (flat (plain i c)) q ≡ coveredFrom (suc w) (flat c) q
+unfolding flat coveredFrom covers
+covered-plain i c w q e = ap (λ (f : Form). covers w f q || coveredFrom (suc w) (flat c) q) e
+
+covered-choice : (r : ℕ) (a b c : Code) (w q : ℕ) → coveredFrom w (flat (choice r a b c)) q
+    ≡ (coveredFrom (suc w) (flat a) q || (coveredFrom (suc (suc w + size a)) (flat b) q || coveredFrom (suc (suc (suc w + size a) + size b)) (flat c) q))
+unfolding flat coveredFrom covers formOf
+covered-choice r a b c w q =
+    covered-behind a _ (suc w) q
+    ∙ ap (λ (x : Bool). coveredFrom (suc w) (flat a) q || x) (covered-behind b _ (suc (suc w + size a)) q)
+
+covered-loop : (r : ℕ) (a c : Code) (w q : ℕ) → coveredFrom w (flat (loop r a c)) q
+    ≡ (coveredFrom (suc w) (flat a) q || coveredFrom (suc (suc w + size a)) (flat c) q)
+unfolding flat coveredFrom covers formOf
+covered-loop r a c w q = covered-behind a _ (suc w) q
+
+covered-block : (a c : Code) (w q : ℕ) → coveredFrom w (flat (block a c)) q
+    ≡ (covers w (form.Atomic (size a + 1)) q || (coveredFrom (suc w) (flat a) q || coveredFrom (suc (suc w + size a)) (flat c) q))
+unfolding flat coveredFrom covers formOf
+covered-block a c w q = ap (λ (x : Bool). covers w (form.Atomic (size a + 1)) q || x) (covered-behind a _ (suc w) q)
+
+-- ---- typed code
+
+module _ (h : ℕ → Row) where
+  -- the code from w on covers place q exactly if the row there says so
+  abbrev pub Agrees : Code → ℕ → ℕ → Type 0
+  Agrees c w q = coveredFrom w (flat c) q ≡ isInner (h q .prefix)
+
+  -- a place with an outer row that nothing covers
+  agrees-outer : {i : Instruction} {s : LockSet} (q : ℕ) (b : Bool) → h q ≡ row i s outer → b ≡ false → b ≡ isInner (h q .prefix)
+  unfolding isInner
+  agrees-outer q b e f = f ∙ sym (ap (λ (r : Row). isInner (r .prefix)) e)
+
+  -- a place with an inner row that something covers
+  agrees-inner : (q : ℕ) (b : Bool) → isInner (h q .prefix) ≡ true → b ≡ true → b ≡ isInner (h q .prefix)
+  agrees-inner q b e f = f ∙ sym e
+
+module _ {p : Program} {t : ℕ} where
+  -- it covers nothing behind it
+  covered-past : {s s′ : LockSet} {c : Code} {a : Atomicity} → Typed p t s c s′ a → (w q : ℕ) → w + size c ≤ q → coveredFrom w (flat c) q ≡ false
+  unfolding size
+  covered-past typed-done w q h = covered-nil w q
+  covered-past (typed-plain {i} {c} f l d) w q h = covered-plain i c w q f ∙ covered-past d (suc w) q (omega arith)
+  covered-past (typed-choice {r} {a} {b} {c} d₁ d₂ d) w q h =
+      covered-choice r a b c w q
+      ∙ or-false _ _ (covered-past d₁ (suc w) q (omega arith))
+        (or-false _ _ (covered-past d₂ (suc (suc w + size a)) q (omega arith)) (covered-past d (suc (suc (suc w + size a) + size b)) q (omega arith)))
+  covered-past (typed-loop {r} {a} {c} d₁ d) w q h =
+      covered-loop r a c w q ∙ or-false _ _ (covered-past d₁ (suc w) q (omega arith)) (covered-past d (suc (suc w + size a)) q (omega arith))
+  covered-past (typed-block {a} {c} d₁ n d) w q h =
+      covered-block a c w q
+      ∙ or-false _ _ (covers-past w (size a + 1) q (omega arith))
+        (or-false _ _ (covered-past d₁ (suc w) q (omega arith)) (covered-past d (suc (suc w + size a)) q (omega arith)))
+
+  -- inside a block every place is inside
+  all-inner : {s s′ : LockSet} {c : Code} {a : Atomicity} (d : Typed p t s c s′ a) (x : Atomicity) → All (λ (r : Row). isInner (r .prefix) ≡ true) (rows d (inner x))
+  unfolding rows isInner
+  all-inner typed-done x = all-nil
+  all-inner (typed-plain {i} f l d) x = all-cons refl (all-inner d (composition x (atomicityOf p t i)))
+  all-inner (typed-choice {x = y} {y = z} d₁ d₂ d) x =
+      all-cons refl (all-append (all-inner d₁ x) (all-cons refl (all-append (all-inner d₂ x) (all-cons refl (all-inner d (composition x (join y z)))))))
+  all-inner (typed-loop {x = y} d₁ d) x =
+      all-cons refl (all-append (all-inner d₁ (composition x (closure y))) (all-cons refl (all-inner d (composition x (closure y)))))
+  all-inner (typed-block {x = y} d₁ n d) x =
+      all-cons refl (all-append (all-inner d₁ x) (all-cons refl (all-inner d (composition x y))))
+
+
+  pub coverage : (h : ℕ → Row) {s s′ : LockSet} {c : Code} {a : Atomicity} (d : Typed p t s c s′ a) (w v : ℕ) → w + size c ≡ v
+      → Reads h w (rows d outer) → Span (Agrees h c w) w v
+  unfolding rows size isInner
+  coverage h typed-done w v e r = λ q k l. absurd (omega arith)
+  coverage h (typed-plain {i} {c} f l d) w v e r =
+      span-join (Agrees h (plain i c) w)
+      (span-one (Agrees h (plain i c) w) w
+        (agrees-outer h w (coveredFrom w (flat (plain i c)) w) (reads-head r) (covered-before (flat (plain i c)) w w (omega arith))))
+      (λ q k l. covered-plain i c w q f ∙ coverage h d (suc w) v (omega arith) (reads-tail r) q k l)
+  coverage h (typed-choice {r = reg} {a} {b} {c} d₁ d₂ d) w v e r =
+      let P = Agrees h (choice reg a b c) w in
+      let w₁ = suc w + size a in
+      let w₂ = suc w₁ + size b in
+      let r₁ = reads-tail r in
+      let r₂ = reads-rest (rows d₁ outer) (length-rows d₁ outer) r₁ in
+      let r₃ = reads-rest (rows d₂ outer) (length-rows d₂ outer) (reads-tail r₂) in
+      span-join P
+      (span-one P w (agrees-outer h w (coveredFrom w (flat (choice reg a b c)) w) (reads-head r) (covered-before (flat (choice reg a b c)) w w (omega arith))))
+      (span-join P
+      (λ q k l. covered-choice reg a b c w q
+        ∙ or-left _ _ (or-false _ _ (covered-before (flat b) (suc w₁) q (omega arith)) (covered-before (flat c) (suc w₂) q (omega arith)))
+        ∙ coverage h d₁ (suc w) w₁ refl (reads-first (rows d₁ outer) _ r₁) q k l)
+      (span-join P
+      (span-one P w₁ (agrees-outer h w₁ (coveredFrom w (flat (choice reg a b c)) w₁) (reads-head r₂) (covered-choice reg a b c w w₁
+        ∙ or-false _ _ (covered-past d₁ (suc w) w₁ (omega arith))
+          (or-false _ _ (covered-before (flat b) (suc w₁) w₁ (omega arith)) (covered-before (flat c) (suc w₂) w₁ (omega arith))))))
+      (span-join P
+      (λ q k l. covered-choice reg a b c w q
+        ∙ or-right _ _ (covered-past d₁ (suc w) q (omega arith))
+        ∙ or-left _ _ (covered-before (flat c) (suc w₂) q (omega arith))
+        ∙ coverage h d₂ (suc w₁) w₂ refl (reads-first (rows d₂ outer) _ (reads-tail r₂)) q k l)
+      (span-join P
+      (span-one P w₂ (agrees-outer h w₂ (coveredFrom w (flat (choice reg a b c)) w₂) (reads-head r₃) (covered-choice reg a b c w w₂
+        ∙ or-false _ _ (covered-past d₁ (suc w) w₂ (omega arith))
+          (or-false _ _ (covered-past d₂ (suc w₁) w₂ (omega arith)) (covered-before (flat c) (suc w₂) w₂ (omega arith))))))
+      (λ q k l. covered-choice reg a b c w q
+        ∙ or-right _ _ (covered-past d₁ (suc w) q (omega arith))
+        ∙ or-right _ _ (covered-past d₂ (suc w₁) q (omega arith))
+        ∙ coverage h d (suc w₂) v (omega arith) (reads-tail r₃) q k l)))))
+  coverage h (typed-loop {r = reg} {a} {c} d₁ d) w v e r =
+      let P = Agrees h (loop reg a c) w in
+      let w₁ = suc w + size a in
+      let r₁ = reads-tail r in
+      let r₂ = reads-rest (rows d₁ outer) (length-rows d₁ outer) r₁ in
+      span-join P
+      (span-one P w (agrees-outer h w (coveredFrom w (flat (loop reg a c)) w) (reads-head r) (covered-before (flat (loop reg a c)) w w (omega arith))))
+      (span-join P
+      (λ q k l. covered-loop reg a c w q
+        ∙ or-left _ _ (covered-before (flat c) (suc w₁) q (omega arith))
+        ∙ coverage h d₁ (suc w) w₁ refl (reads-first (rows d₁ outer) _ r₁) q k l)
+      (span-join P
+      (span-one P w₁ (agrees-outer h w₁ (coveredFrom w (flat (loop reg a c)) w₁) (reads-head r₂) (covered-loop reg a c w w₁
+        ∙ or-false _ _ (covered-past d₁ (suc w) w₁ (omega arith)) (covered-before (flat c) (suc w₁) w₁ (omega arith)))))
+      (λ q k l. covered-loop reg a c w q
+        ∙ or-right _ _ (covered-past d₁ (suc w) q (omega arith))
+        ∙ coverage h d (suc w₁) v (omega arith) (reads-tail r₂) q k l)))
+  coverage h (typed-block {a} {c} d₁ n d) w v e r =
+      let P = Agrees h (block a c) w in
+      let w₁ = suc w + size a in
+      let r₁ = reads-tail r in
+      let r₂ = reads-rest (rows d₁ (inner Both)) (length-rows d₁ (inner Both)) r₁ in
+      let inside : Span (λ (q : ℕ). isInner (h q .prefix) ≡ true) (suc w) w₁ =
+            subst (λ (n : ℕ). Span (λ (q : ℕ). isInner (h q .prefix) ≡ true) (suc w) (suc w + n)) (length-rows d₁ (inner Both))
+            (reads-all (λ (r : Row). isInner (r .prefix) ≡ true) (reads-first (rows d₁ (inner Both)) _ r₁) (all-inner d₁ Both)) in
+      span-join P
+      (span-one P w (agrees-outer h w (coveredFrom w (flat (block a c)) w) (reads-head r) (covered-before (flat (block a c)) w w (omega arith))))
+      (span-join P
+      (λ q k l. agrees-inner h q (coveredFrom w (flat (block a c)) q)
+        (span-join (λ (q : ℕ). isInner (h q .prefix) ≡ true) inside (span-one (λ (q : ℕ). isInner (h q .prefix) ≡ true) w₁ (ap (λ (r : Row). isInner (r .prefix)) (reads-head r₂))) q k l)
+        (covered-block a c w q ∙ or-true _ _ (covers-inside w (size a + 1) q k (omega arith))))
+      (λ q k l. covered-block a c w q
+        ∙ or-right _ _ (covers-past w (size a + 1) q (omega arith))
+        ∙ or-right _ _ (covered-past d₁ (suc w) q (omega arith))
+        ∙ coverage h d (suc w₁) v (omega arith) (reads-tail r₂) q k l))
