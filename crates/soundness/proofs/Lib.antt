@@ -4,3 +4,4 @@ pub mod Prefix
 pub mod Annotation
 pub mod Flow
 pub mod Coverage
+pub mod Access

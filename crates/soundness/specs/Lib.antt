@@ -3,3 +3,4 @@ pub mod Demand
 pub mod Typing
 pub mod Prefix
 pub mod Annotation
+pub mod Access
