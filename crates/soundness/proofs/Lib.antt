@@ -5,3 +5,4 @@ pub mod Annotation
 pub mod Flow
 pub mod Coverage
 pub mod Access
+pub mod Move
