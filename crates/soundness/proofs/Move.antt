@@ -74,3 +74,84 @@ module _ (i : Instruction) (t : ℕ) (s : State) where
   pub thread-other : (u : ℕ) → u ≢ t → threadOf (moveBy i t s) u ≡ threadOf s u
   unfolding threadOf moveBy
   thread-other u n = getD-set-other (s .threads) t u _ fresh n
+
+length-locks : (x : Access) (t : ℕ) (ks : List ℕ) → length (locksAfter x t ks) ≡ length ks
+unfolding locksAfter
+length-locks none t ks = refl
+length-locks (reads v) t ks = refl
+length-locks (writes v a) t ks = refl
+length-locks (takes k) t ks = length-set ks k (t + 1)
+length-locks (gives k) t ks = length-set ks k 0
+
+-- ---- a move under the invariant
+
+module _ (p : Program) (A : (t : ℕ) → Annotated p t) where
+  -- the others stay where they are
+  pub place-other : (g : Named) (t u : ℕ) → u ≢ t → placeOf p A (movedNamed p t g) u ≡ placeOf p A g u
+  unfolding movedNamed moved
+  place-other g t u n = ap (λ (th : Thread). th .place) (thread-other (instructionOf p t (g .machine)) t (g .machine) u n)
+
+  pub row-other : (g : Named) (t u : ℕ) → u ≢ t → rowOf p A (movedNamed p t g) u ≡ rowOf p A g u
+  row-other g t u n = ap (A u .rowAt) (place-other g t u n)
+
+  module _ {g : Named} (inv : Invariant p A g) (t : ℕ) (e : outcome p t (g .machine) ≡ Moved) where
+    in-code : placeOf p A g t < length (codeOf p t)
+    in-code = let n = moved-place p t (g .machine) e in omega (arith, inv .places t)
+
+    pub in-program : t < length (p .threads)
+    in-program = code-thread p t (placeOf p A g t) in-code
+
+    pub in-threads : t < length (g .machine .threads)
+    in-threads = omega (arith, inv .thread-count, in-program)
+
+    pub in-finished : t < length (g .finished)
+    in-finished = omega (arith, inv .finished-count, in-program)
+
+    place-moved : placeOf p A (movedNamed p t g) t ≡ placeAfter (instructionOf p t (g .machine)) (threadOf (g .machine) t .registers) (placeOf p A g t)
+    unfolding movedNamed moved threadAfter
+    place-moved = ap (λ (th : Thread). th .place) (thread-moved (instructionOf p t (g .machine)) t (g .machine) in-threads)
+
+    same-instruction : rowOf p A g t .instruction ≡ instructionOf p t (g .machine)
+    unfolding instructionOf
+    same-instruction = A t .same-code (placeOf p A g t) in-code
+
+    arrives : Follows p t (rowOf p A g t) (rowOf p A (movedNamed p t g) t) × (placeOf p A (movedNamed p t g) t ≤ length (codeOf p t))
+    arrives =
+        let registers = threadOf (g .machine) t .registers in
+        let to = ap (λ (j : Instruction). placeAfter j registers (placeOf p A g t)) same-instruction ∙ sym place-moved in
+        subst (λ (q : ℕ). Follows p t (rowOf p A g t) (A t .rowAt q) × (q ≤ length (codeOf p t))) to (A t .flows (placeOf p A g t) in-code registers)
+
+    legal : Legal p t (instructionOf p t (g .machine)) (rowOf p A g t .locks) (rowOf p A (movedNamed p t g) t .locks)
+    legal = subst (λ (j : Instruction). Legal p t j (rowOf p A g t .locks) (rowOf p A (movedNamed p t g) t .locks)) same-instruction (arrives .0 .legal)
+
+    -- what its ends say of the move
+    pub goes : Goes (atomicityOf p t (instructionOf p t (g .machine))) (rowOf p A g t .prefix) (rowOf p A (movedNamed p t g) t .prefix)
+    goes = subst (λ (j : Instruction). Goes (atomicityOf p t j) (rowOf p A g t .prefix) (rowOf p A (movedNamed p t g) t .prefix)) same-instruction (arrives .0 .goes)
+
+    pub permitted : Permitted p t (rowOf p A g t .locks) (accessOf (instructionOf p t (g .machine)))
+    permitted = legal-permitted (instructionOf p t (g .machine)) legal
+
+    pub takes-below : TakesBelow (length (g .machine .locks)) (accessOf (instructionOf p t (g .machine)))
+    unfolding instructionOf
+    takes-below = subst (λ (n : ℕ). TakesBelow n (accessOf (instructionOf p t (g .machine)))) (sym (inv .lock-count)) (A t .takes-below (placeOf p A g t) in-code)
+
+    owns-mine : Owns t (rowOf p A (movedNamed p t g) t .locks) (locksAfter (accessOf (instructionOf p t (g .machine))) t (g .machine .locks))
+    owns-mine =
+        subst (λ (s : LockSet). Owns t s (locksAfter (accessOf (instructionOf p t (g .machine))) t (g .machine .locks))) (legal-set (instructionOf p t (g .machine)) legal)
+        (owns-moved (inv .owns t) (accessOf (instructionOf p t (g .machine))) permitted takes-below)
+
+    -- the invariant holds afterwards
+    pub invariant-moved : Invariant p A (movedNamed p t g)
+    unfolding movedNamed moved moveBy
+    invariant-moved = record
+      { owns = λ u. dite (ℕ-discrete u t)
+          (λ (same : u ≡ t). subst (λ (v : ℕ). Owns v (rowOf p A (movedNamed p t g) v .locks) (movedNamed p t g .machine .locks)) (sym same) owns-mine)
+          (λ (n : u ≢ t). subst (λ (r : Row). Owns u (r .locks) (movedNamed p t g .machine .locks)) (sym (row-other g t u n))
+            (owns-other (inv .owns t) (Ne·symm n) (inv .owns u) (accessOf (instructionOf p t (g .machine))) permitted (moved-waits p t (g .machine) e)))
+      ; places = λ u. dite (ℕ-discrete u t)
+          (λ (same : u ≡ t). subst (λ (v : ℕ). placeOf p A (movedNamed p t g) v ≤ length (codeOf p v)) (sym same) (arrives .1))
+          (λ (n : u ≢ t). omega (arith, place-other g t u n, inv .places u))
+      ; lock-count = length-locks (accessOf (instructionOf p t (g .machine))) t (g .machine .locks) ∙ inv .lock-count
+      ; thread-count = length-set (g .machine .threads) t _ ∙ inv .thread-count
+      ; finished-count = length-set (g .finished) t _ ∙ inv .finished-count
+      }
