@@ -6,3 +6,5 @@ pub mod Flow
 pub mod Coverage
 pub mod Access
 pub mod Move
+pub mod Commute
+pub mod Instance

@@ -165,3 +165,8 @@ pub outer-outside : (m : Prefix) → isInner m ≡ false → statusOf m ≡ outs
 unfolding statusOf isInner
 outer-outside outer e = refl
 outer-outside (inner x) e = absurd (let z : _≡_ {A = ℕ} 0 1 = cc in omega arith)
+
+pub not-outside-inner : (m : Prefix) → statusOf m ≢ outside → isInner m ≡ true
+unfolding statusOf isInner
+not-outside-inner outer n = absurd (n refl)
+not-outside-inner (inner x) n = refl
