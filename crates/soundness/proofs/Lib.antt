@@ -8,3 +8,4 @@ pub mod Access
 pub mod Move
 pub mod Commute
 pub mod Instance
+pub mod Traced
