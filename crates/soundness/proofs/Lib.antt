@@ -9,3 +9,4 @@ pub mod Move
 pub mod Commute
 pub mod Instance
 pub mod Traced
+pub mod Serialize
