@@ -1,0 +1,17 @@
+-- Laws that belong to no one function.
+--     Decode           what a decoded instruction's fields satisfy
+--     Contents         a file's contents by index
+--     Structure        nesting passes exactly for the flat writing of structured code
+--     StructureFlat    ... the flat writing, and reading it back
+--     StructureTurn    ... what a scan that passes has come to
+--     StructureParse   ... from the scan to the code
+--     StructureScan    ... from the code to the scan
+--     Jumps            distances lead to places of the code
+pub mod Decode
+pub mod Contents
+pub mod StructureFlat
+pub mod StructureTurn
+pub mod StructureParse
+pub mod StructureScan
+pub mod Structure
+pub mod Jumps
