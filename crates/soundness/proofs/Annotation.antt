@@ -11,7 +11,7 @@ use Rattle.atomicity.specs.Atomicity.{join, closure}
 use Rattle.atomicity.specs.declared.Atomicity.{Atomicity}
 use Rattle.judge.specs.Discipline.{atomicityOf}
 use Rattle.judge.specs.declared.lock_set.LockSet.{LockSet}
-use Rattle.program.specs.Code.{Code, done, plain, choice, loop, block, size, flat}
+use Rattle.program.specs.Code.{Code, size, flat}
 use Rattle.program.specs.Layout.{Program}
 use Rattle.program.specs.declared.instruction.Instruction.{Instruction}
 use Rattle.program.specs.declared.instruction.Instruction.the-variants.{If, Else, While, Again, Atomic, End}
@@ -78,6 +78,13 @@ all-append (all-cons x a) b = all-cons x (all-append a b)
 
 -- ---- the rows
 
+map-append : {A B : Type 0} (f : A → B) (l k : List A) → map f (l ++ k) ≡ map f l ++ map f k
+map-append f [] k = refl
+map-append f (x ∷ l) k = ap (λ (r : List _). f x ∷ r) (map-append f l k)
+
+abbrev pub instructionAt : Row → Instruction
+instructionAt r = r .instruction
+
 module _ {p : Program} {t : ℕ} where
   -- one for each instruction
   pub length-rows : {s s′ : LockSet} {c : Code} {a : Atomicity} (d : Typed p t s c s′ a) (m : Prefix) → length (rows d m) ≡ size c
@@ -91,12 +98,11 @@ module _ {p : Program} {t : ℕ} where
   length-rows (typed-block {x} d₁ n d) m =
       simp (length-append) (omega (arith, length-rows d₁ (entered m), length-rows d (behind m x)))
 
--- ---- the flat writing
-
-pub length-flat : (c : Code) → length (flat c) ≡ size c
-unfolding flat size
-length-flat done = refl
-length-flat (plain i c) = omega (arith, length-flat c)
-length-flat (choice r a b c) = simp (length-append, length-flat a, length-flat b, length-flat c) (omega arith)
-length-flat (loop r a c) = simp (length-append, length-flat a, length-flat c) (omega arith)
-length-flat (block a c) = simp (length-append, length-flat a, length-flat c) (omega arith)
+  -- its instructions are the flat writing
+  pub rows-flat : {s s′ : LockSet} {c : Code} {a : Atomicity} (d : Typed p t s c s′ a) (m : Prefix) → map instructionAt (rows d m) ≡ flat c
+  unfolding rows flat
+  rows-flat typed-done m = refl
+  rows-flat (typed-plain {i} f l d) m = ap (λ (k : List Instruction). i ∷ k) (rows-flat d (behind m (atomicityOf p t i)))
+  rows-flat (typed-choice {x} {y} d₁ d₂ d) m = simp (map-append instructionAt, rows-flat d₁ m, rows-flat d₂ m, rows-flat d (behind m (join x y)))
+  rows-flat (typed-loop {x} d₁ d) m = simp (map-append instructionAt, rows-flat d₁ (behind m (closure x)), rows-flat d (behind m (closure x)))
+  rows-flat (typed-block {x} d₁ n d) m = simp (map-append instructionAt, rows-flat d₁ (entered m), rows-flat d (behind m x))

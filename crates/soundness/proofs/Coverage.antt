@@ -14,6 +14,7 @@ use Rattle.atomicity.specs.declared.Atomicity.the-variants.{Both}
 use Rattle.judge.specs.Discipline.{atomicityOf}
 use Rattle.judge.specs.declared.lock_set.LockSet.{LockSet}
 use Rattle.machine.specs.Block.{covers, coveredFrom}
+use Rattle.program.proofs.StructureFlat.{length-flat}
 use Rattle.program.specs.Code.{Code, done, plain, choice, loop, block, size, flat}
 use Rattle.program.specs.Instruction.{formOf}
 use Rattle.program.specs.Layout.{Program}
@@ -26,7 +27,7 @@ use Rattle.reduction.specs.Sequence.{All, all-nil, all-cons}
 use Rattle.soundness.specs.Annotation.{Row, row, rows, Reads, Span}
 use Rattle.soundness.specs.Prefix.{Prefix, outer, inner, isInner, behind, entered}
 use Rattle.soundness.specs.Typing.{Typed, typed-done, typed-plain, typed-choice, typed-loop, typed-block}
-use Rattle.soundness.proofs.Annotation.{reads-head, reads-tail, reads-first, reads-rest, reads-all, all-append, span-empty, span-one, span-join, length-rows, length-flat}
+use Rattle.soundness.proofs.Annotation.{reads-head, reads-tail, reads-first, reads-rest, reads-all, all-append, span-empty, span-one, span-join, length-rows}
 
 -- ---- covered by some instruction of a list
 
@@ -135,7 +136,7 @@ module _ (h : ℕ → Row) where
 
 module _ {p : Program} {t : ℕ} where
   -- it covers nothing behind it
-  covered-past : {s s′ : LockSet} {c : Code} {a : Atomicity} → Typed p t s c s′ a → (w q : ℕ) → w + size c ≤ q → coveredFrom w (flat c) q ≡ false
+  pub covered-past : {s s′ : LockSet} {c : Code} {a : Atomicity} → Typed p t s c s′ a → (w q : ℕ) → w + size c ≤ q → coveredFrom w (flat c) q ≡ false
   unfolding size
   covered-past typed-done w q h = covered-nil w q
   covered-past (typed-plain {i} {c} f l d) w q h = covered-plain i c w q f ∙ covered-past d (suc w) q (omega arith)

@@ -10,3 +10,4 @@ pub mod Commute
 pub mod Instance
 pub mod Traced
 pub mod Serialize
+pub mod Annotated

@@ -16,8 +16,9 @@ use Rattle.judge.specs.declared.lock_set.LockSet.{LockSet}
 use Rattle.program.specs.Choice.{Answer, fine, refused, choose, require, _>>=_}
 use Rattle.program.specs.Code.{Code, done, plain, choice, loop, block, size}
 use Rattle.program.specs.Layout.{Program}
+use Rattle.program.specs.WellFormed.{WellFormed}
 use Rattle.program.specs.declared.refusal.Refusal.{Refusal}
-use Rattle.soundness.specs.Typing.{Legal, Typed, typed-done, typed-plain, typed-choice, typed-loop, typed-block, WellFormed}
+use Rattle.soundness.specs.Typing.{Legal, Typed, typed-done, typed-plain, typed-choice, typed-loop, typed-block}
 
 -- ---- an answer that is fine
 

@@ -30,11 +30,3 @@ pub data Typed (p : Program) (t : ℕ) : LockSet → Code → LockSet → Atomic
     → Typed p t s a s x → Typed p t s c s″ z → Typed p t s (loop r a c) s″ (composition (closure x) z)
   typed-block : {a c : Code} {s s′ s″ : LockSet} {x z : Atomicity}
     → Typed p t s a s′ x → x ≢ Top → Typed p t s′ c s″ z → Typed p t s (block a c) s″ (composition x z)
-
--- each plain instruction is neither an opener nor a closer
-unfoldable pub WellFormed : Code → Type 0
-WellFormed done = Unit {0}
-WellFormed (plain i c) = (formOf i ≡ Plain) × WellFormed c
-WellFormed (choice r a b c) = WellFormed a × WellFormed b × WellFormed c
-WellFormed (loop r a c) = WellFormed a × WellFormed c
-WellFormed (block a c) = WellFormed a × WellFormed c
