@@ -11,3 +11,5 @@ pub mod Instance
 pub mod Traced
 pub mod Serialize
 pub mod Annotated
+pub mod Accepted
+pub mod Demand
