@@ -4,10 +4,13 @@ use Prim.Native.Nat.{ℕ}
 use native.Mathlib.Decide.{ℕ-discrete}
 use mathlib.Core.Path.{_≡_}
 use mathlib.Core.List.{List, filter}
-use Rattle.machine.specs.Block.{Uninterrupted}
+use Rattle.judge.specs.Acceptance.{Accepted, accept}
+use Rattle.machine.specs.Block.{NobodyInside, Uninterrupted}
 use Rattle.machine.specs.Run.{run}
+use Rattle.program.specs.Choice.{fine}
 use Rattle.program.specs.Layout.{Program}
 use Rattle.reduction.specs.Sequence.{AllPairs}
+use Rattle.soundness.specs.Demand.{ThreadsOf}
 use Rattle.soundness.specs.Naming.{BlockName, blocks}
 
 -- the blocks of thread t's moves, in order
@@ -25,3 +28,10 @@ pub record SerializedInOrder (p : Program) (list : List ℕ) : Type 0 where
   pub same-moved : run p serial .counts .moved ≡ run p list .counts .moved
   pub same-moves : (t : ℕ) → blocksOf t (blocks p serial) ≡ blocksOf t (blocks p list)
   pub same-order : (a b : BlockName) → Precedes a b (blocks p list) → Precedes a b (blocks p serial)
+
+-- demand 3 with these
+unfoldable pub Demand3InOrder : List ℕ → Type 0
+Demand3InOrder file =
+    (a : Accepted) → accept file ≡ fine a
+    → (list : List ℕ) → ThreadsOf (a .program) list → NobodyInside (a .program) (run (a .program) list .state)
+    → SerializedInOrder (a .program) list
