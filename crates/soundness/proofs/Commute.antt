@@ -17,7 +17,7 @@ use Rattle.program.specs.Layout.{Program}
 use Rattle.program.specs.declared.instruction.Instruction.{Instruction}
 use Rattle.program.specs.declared.instruction.Instruction.the-variants.{End}
 use Rattle.soundness.specs.Access.{Independent}
-use Rattle.soundness.specs.Naming.{Named, moved, movedNamed, blockOf, finishedAfter}
+use Rattle.soundness.specs.Naming.{Named, moved, movedNamed, blockOf, moveOf, finishedAfter}
 use Rattle.soundness.proofs.Move.{mover, thread-other}
 
 -- ---- of two threads of the machine
@@ -67,7 +67,13 @@ module _ (p : Program) (i : Instruction) {t u : ℕ} (s : State) (n : u ≢ t) w
 
 -- ---- with the blocks finished
 
--- the other thread's block
+-- the other thread's next move, and its block
+pub move-other : (p : Program) (g : Named) (t u : ℕ) → u ≢ t → moveOf (movedNamed p t g) u ≡ moveOf g u
+unfolding moveOf movedNamed moved
+move-other p g t u n =
+    ap₂ (λ (k : ℕ) (th : Thread). record { thread = u; number = k; before = th })
+    (getD-set-other (g .finished) t u _ 0 n) (thread-other (instructionOf p t (g .machine)) t (g .machine) u n)
+
 pub block-other : (p : Program) (g : Named) (t u : ℕ) → u ≢ t → blockOf (movedNamed p t g) u ≡ blockOf g u
 unfolding blockOf movedNamed
 block-other p g t u n = ap (λ (k : ℕ). record { thread = u; number = k }) (getD-set-other (g .finished) t u _ 0 n)

@@ -21,10 +21,10 @@ use Rattle.reduction.specs.Moves.{Movers, Unmoved, Swappable, outside, beforeCo
 use Rattle.soundness.specs.Access.{Permitted, Independent, Swaps, right-first, left-second, accessMover}
 use Rattle.soundness.specs.Annotation.{Row}
 use Rattle.soundness.specs.Instance.{Annotated, placeOf, rowOf, Invariant, Moving, machineMoves}
-use Rattle.soundness.specs.Naming.{BlockName, Named, blockOf, moved, movedNamed, finishedAfter}
+use Rattle.soundness.specs.Naming.{Move, Named, blockName, blockOf, moveOf, moved, movedNamed, finishedAfter}
 use Rattle.soundness.specs.Prefix.{statusOf, isInner, Goes}
 use Rattle.soundness.proofs.Access.{access-mover, independent}
-use Rattle.soundness.proofs.Commute.{instruction-other, outcome-other, block-other, moved-named-comm}
+use Rattle.soundness.proofs.Commute.{instruction-other, outcome-other, block-other, move-other, moved-named-comm}
 use Rattle.soundness.proofs.Move.{moved-waits, row-other, in-finished, goes, permitted, takes-below, invariant-moved}
 use Rattle.soundness.proofs.Prefix.{goes-right, goes-left, goes-committed, not-outside-inner}
 
@@ -73,7 +73,7 @@ module _ (p : Program) (A : (t : ℕ) → Annotated p t) where
       }
 
   -- two moves of the trace, seen from where the first starts
-  module _ {g h v : Named} {x y : BlockName} (X : Moving p A g x h) (Y : Moving p A h y v) (n : x .thread ≢ y .thread) where
+  module _ {g h v : Named} {x y : Move} (X : Moving p A g x h) (Y : Moving p A h y v) (n : x .thread ≢ y .thread) where
     after-first : Moving p A (movedNamed p (x .thread) g) y v
     after-first = subst (λ (k : Named). Moving p A k y v) (X .next) Y
 
@@ -85,20 +85,20 @@ module _ (p : Program) (A : (t : ℕ) → Annotated p t) where
         record
         { invariant = X .invariant
         ; moved = w .first
-        ; named = after-first .named ∙ block-other p g (x .thread) (y .thread) (Ne·symm n)
+        ; named = after-first .named ∙ move-other p g (x .thread) (y .thread) (Ne·symm n)
         ; next = refl
         },
         record
         { invariant = invariant-moved p A (X .invariant) (y .thread) (w .first)
         ; moved = w .second
-        ; named = X .named ∙ sym (block-other p g (y .thread) (x .thread) n)
+        ; named = X .named ∙ sym (move-other p g (y .thread) (x .thread) n)
         ; next = after-first .next ∙ w .same
         })
 
   -- ---- the laws
 
   -- the move's ends
-  goes-move : {g h : Named} {x : BlockName} → Moving p A g x h
+  goes-move : {g h : Named} {x : Move} → Moving p A g x h
       → Goes (atomicityOf p (x .thread) (instructionOf p (x .thread) (g .machine))) (rowOf p A g (x .thread) .prefix) (rowOf p A h (x .thread) .prefix)
   goes-move {g} {x} X =
       subst (λ (k : Named). Goes (atomicityOf p (x .thread) (instructionOf p (x .thread) (g .machine))) (rowOf p A g (x .thread) .prefix) (rowOf p A k (x .thread) .prefix))
@@ -113,19 +113,24 @@ module _ (p : Program) (A : (t : ℕ) → Annotated p t) where
       ap (λ (k : ℕ). record { thread = t; number = k })
       (getD-set-same (g .finished) t _ 0 (in-finished p A inv t e) ∙ ap (λ (b : Bool). finishedAfter b (getD (g .finished) t 0)) inner)
 
-  unmoved : {g h : Named} {x : BlockName} {t : ℕ} → Moving p A g x h → t ≢ x .thread → Unmoved (machineMoves p A) t g h
+  unmoved : {g h : Named} {x : Move} {t : ℕ} → Moving p A g x h → t ≢ x .thread → Unmoved (machineMoves p A) t g h
   unmoved {g} {h} {x} {t} X n =
       (ap (λ (k : Named). statusOf (rowOf p A k t .prefix)) (X .next) ∙ ap (λ (r : Row). statusOf (r .prefix)) (row-other p A g (x .thread) t n),
       ap (λ (k : Named). blockOf k t) (X .next) ∙ block-other p g (x .thread) t n)
 
-  ends-inside : {g h : Named} {x : BlockName} → Moving p A g x h → statusOf (rowOf p A h (x .thread) .prefix) ≢ outside → blockOf h (x .thread) ≡ x
+  -- a move belongs to the block that its thread is in, or to the next
+  named-block : {g h : Named} {x : Move} → Moving p A g x h → blockName x ≡ blockOf g (x .thread)
+  unfolding blockName blockOf moveOf
+  named-block X = ap blockName (X .named)
+
+  ends-inside : {g h : Named} {x : Move} → Moving p A g x h → statusOf (rowOf p A h (x .thread) .prefix) ≢ outside → blockOf h (x .thread) ≡ blockName x
   ends-inside {g} {h} {x} X n =
       ap (λ (k : Named). blockOf k (x .thread)) (X .next)
       ∙ same-block (X .invariant) (x .thread) (X .moved) (subst (λ (k : Named). statusOf (rowOf p A k (x .thread) .prefix) ≢ outside) (X .next) n)
-      ∙ sym (X .named)
+      ∙ sym (named-block X)
 
   -- the second move's instruction is the one that its thread stands at before the first
-  same-second : {g h : Named} {x : BlockName} {t : ℕ} → Moving p A g x h → t ≢ x .thread → instructionOf p t (h .machine) ≡ instructionOf p t (g .machine)
+  same-second : {g h : Named} {x : Move} {t : ℕ} → Moving p A g x h → t ≢ x .thread → instructionOf p t (h .machine) ≡ instructionOf p t (g .machine)
   unfolding movedNamed moved
   same-second {g} {x} {t} X n =
       ap (λ (k : Named). instructionOf p t (k .machine)) (X .next) ∙ instruction-other p (instructionOf p (x .thread) (g .machine)) (g .machine) n
@@ -133,7 +138,7 @@ module _ (p : Program) (A : (t : ℕ) → Annotated p t) where
   pub machine-movers : Movers (machineMoves p A)
   machine-movers = record
     { others = λ {s} {u} {m} {t} X n. unmoved X n
-    ; starts-in = λ {s} {u} {m} X n. X .named
+    ; starts-in = λ {s} {u} {m} X n. named-block X
     ; ends-in = λ {s} {u} {m} X n. ends-inside X n
     ; committed = λ {s} {u} {m} X e. goes-committed (goes-move X) e
     ; right-mover = λ {s} {u} {v} {x} {y} X Y n e. swappable X Y n (right-first (goes-right (goes-move X) e))

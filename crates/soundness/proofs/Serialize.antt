@@ -22,8 +22,8 @@ use Rattle.reduction.proofs.Reduction.{reduction, same-length, same-precedence}
 use Rattle.soundness.specs.Access.{Owns}
 use Rattle.soundness.specs.Annotation.{Row}
 use Rattle.soundness.specs.Instance.{Annotated, placeOf, rowOf, Invariant, machineMoves}
-use Rattle.soundness.specs.Naming.{BlockName, Named, namedStart, blocks, blocksFrom}
-use Rattle.soundness.specs.Order.{blocksOf, Precedes, SerializedInOrder}
+use Rattle.soundness.specs.Naming.{Move, Named, namedStart, moves}
+use Rattle.soundness.specs.Order.{movesOf, Precedes, SerializedInOrder}
 use Rattle.soundness.specs.Prefix.{Prefix, outer, statusOf, Below, below-outer}
 use Rattle.soundness.specs.Traced.{runOf, Traced, Listed}
 use Rattle.soundness.proofs.Instance.{inside-row, machine-movers}
@@ -98,16 +98,16 @@ module _ (p : Program) (A : (t : ℕ) → Annotated p t) where
   none = record { moved = 0; waiting = 0; idle = 0 }
 
   pub serialized : (list : List ℕ) → NobodyInside p (run p list .state) → SerializedInOrder p list
-  unfolding run blocks namedStart Uninterrupted
+  unfolding run moves namedStart Uninterrupted
   serialized list nobody =
       let T = traced p A list (namedStart p) none invariant-start in
       let R = reduction (machineMoves p A) (machine-movers p A) (T .trace) quiescent-start (quiescent-end (T .invariant) (subst (NobodyInside p) (sym (T .same-state)) nobody)) in
       let L = listed p A none (R .uninterrupted) invariant-start in
       record
-      { serial = map (λ (b : BlockName). b .thread) (R .moves)
+      { serial = map (λ (m : Move). m .thread) (R .moves)
       ; uninterrupted = L .uninterrupted
       ; same-state = L .same-state ∙ T .same-state
       ; same-moved = L .same-moved ∙ ap (λ (n : ℕ). 0 + n) (same-length (machineMoves p A) R) ∙ sym (T .same-moved)
-      ; same-moves = λ t. ap (blocksOf t) (L .same-blocks) ∙ R .same-moves t
-      ; same-order = λ a b h. subst (Precedes a b) (sym (L .same-blocks)) (same-precedence (machineMoves p A) R a b h)
+      ; same-moves = λ t. ap (movesOf t) (L .same-moves) ∙ R .same-moves t
+      ; same-order = λ a b h. subst (Precedes a b) (sym (L .same-moves)) (same-precedence (machineMoves p A) R a b h)
       }

@@ -17,7 +17,7 @@ use Rattle.program.specs.Layout.{Program}
 use Rattle.reduction.specs.Moves.{outside}
 use Rattle.reduction.specs.Reduction.{Trace, trace-nil, trace-cons, Uninterrupted, alone-nil, alone-cons, Alone}
 use Rattle.soundness.specs.Instance.{Annotated, Invariant, Moving, machineMoves, rowOf}
-use Rattle.soundness.specs.Naming.{BlockName, Named, blockOf, moved, movedNamed, afterNamed, alsoNamed, blocksFrom}
+use Rattle.soundness.specs.Naming.{Move, Named, moveOf, moved, movedNamed, afterNamed, alsoMoved, movesFrom}
 use Rattle.soundness.specs.Prefix.{statusOf}
 use Rattle.soundness.specs.Traced.{runOf, Traced, Listed}
 use Rattle.soundness.proofs.Instance.{inside-row}
@@ -27,10 +27,10 @@ use Rattle.soundness.proofs.Prefix.{outside-outer}
 -- ---- one entry of the list
 
 module _ (p : Program) (t : ℕ) (ts : List ℕ) (g : Named) where
-  blocks-by : {o : Outcome} → outcome p t (g .machine) ≡ o
-      → blocksFrom p g (t ∷ ts) ≡ alsoNamed o (blockOf g t) (blocksFrom p (afterNamed o g (movedNamed p t g)) ts)
-  unfolding blocksFrom
-  blocks-by e = ap (λ (o : Outcome). alsoNamed o (blockOf g t) (blocksFrom p (afterNamed o g (movedNamed p t g)) ts)) e
+  moves-by : {o : Outcome} → outcome p t (g .machine) ≡ o
+      → movesFrom p g (t ∷ ts) ≡ alsoMoved o (moveOf g t) (movesFrom p (afterNamed o g (movedNamed p t g)) ts)
+  unfolding movesFrom
+  moves-by e = ap (λ (o : Outcome). alsoMoved o (moveOf g t) (movesFrom p (afterNamed o g (movedNamed p t g)) ts)) e
 
   run-by : {o : Outcome} (c : Counts) → outcome p t (g .machine) ≡ o
       → runOf p c g (t ∷ ts) ≡ runOf p (counted o c) (afterNamed o g (movedNamed p t g)) ts
@@ -49,49 +49,49 @@ module _ (p : Program) (A : (t : ℕ) → Annotated p t) where
 
   moved-entry : (t : ℕ) (ts : List ℕ) (g : Named) (c : Counts) → Invariant p A g → outcome p t (g .machine) ≡ Moved
       → Traced p A ts (movedNamed p t g) (counted Moved c) → Traced p A (t ∷ ts) g c
-  unfolding blockOf
+  unfolding moveOf
   moved-entry t ts g c inv e r = record
     { last = r .last
-    ; trace = subst (λ (l : List BlockName). Trace (machineMoves p A) g l (r .last)) (sym (blocks-by p t ts g e))
+    ; trace = subst (λ (l : List Move). Trace (machineMoves p A) g l (r .last)) (sym (moves-by p t ts g e))
         (trace-cons (record { invariant = inv; moved = e; named = refl; next = refl }) (r .trace))
     ; invariant = r .invariant
     ; same-state = r .same-state ∙ sym (ap (λ (x : Run). x .state) (run-by p t ts g c e))
     ; same-moved =
         ap (λ (x : Run). x .counts .moved) (run-by p t ts g c e) ∙ r .same-moved
-        ∙ sym (ap (λ (l : List BlockName). c .moved + length l) (blocks-by p t ts g e) ∙ omega arith)
+        ∙ sym (ap (λ (l : List Move). c .moved + length l) (moves-by p t ts g e) ∙ omega arith)
     }
 
   -- an entry that does not move
   other-entry : (t : ℕ) (ts : List ℕ) (g : Named) (c d : Counts) → d .moved ≡ c .moved → runOf p c g (t ∷ ts) ≡ runOf p d g ts
-      → blocksFrom p g (t ∷ ts) ≡ blocksFrom p g ts → Traced p A ts g d → Traced p A (t ∷ ts) g c
+      → movesFrom p g (t ∷ ts) ≡ movesFrom p g ts → Traced p A ts g d → Traced p A (t ∷ ts) g c
   other-entry t ts g c d m e f r = record
     { last = r .last
-    ; trace = subst (λ (l : List BlockName). Trace (machineMoves p A) g l (r .last)) (sym f) (r .trace)
+    ; trace = subst (λ (l : List Move). Trace (machineMoves p A) g l (r .last)) (sym f) (r .trace)
     ; invariant = r .invariant
     ; same-state = r .same-state ∙ sym (ap (λ (x : Run). x .state) e)
     ; same-moved =
-        ap (λ (x : Run). x .counts .moved) e ∙ r .same-moved ∙ ap (λ (n : ℕ). n + length (blocksFrom p g ts)) m
-        ∙ sym (ap (λ (l : List BlockName). c .moved + length l) f)
+        ap (λ (x : Run). x .counts .moved) e ∙ r .same-moved ∙ ap (λ (n : ℕ). n + length (movesFrom p g ts)) m
+        ∙ sym (ap (λ (l : List Move). c .moved + length l) f)
     }
 
   pub traced : (ts : List ℕ) (g : Named) (c : Counts) → Invariant p A g → Traced p A ts g c
-  unfolding blocksFrom runFrom
+  unfolding movesFrom runFrom
   traced [] g c inv = record { last = g; trace = trace-nil; invariant = inv; same-state = refl; same-moved = sym (add-zero (c .moved)) }
   traced (t ∷ ts) g c inv =
       by-outcome (outcome p t (g .machine)) refl (λ h d k. traced ts h d k)
     where
       by-outcome : (o : Outcome) → outcome p t (g .machine) ≡ o → ((h : Named) (d : Counts) → Invariant p A h → Traced p A ts h d) → Traced p A (t ∷ ts) g c
       by-outcome Moved e rest = moved-entry t ts g c inv e (rest (movedNamed p t g) (counted Moved c) (invariant-moved p A inv t e))
-      by-outcome Waiting e rest = other-entry t ts g c (counted Waiting c) refl (run-by p t ts g c e) (blocks-by p t ts g e) (rest g (counted Waiting c) inv)
-      by-outcome Idle e rest = other-entry t ts g c (counted Idle c) refl (run-by p t ts g c e) (blocks-by p t ts g e) (rest g (counted Idle c) inv)
+      by-outcome Waiting e rest = other-entry t ts g c (counted Waiting c) refl (run-by p t ts g c e) (moves-by p t ts g e) (rest g (counted Waiting c) inv)
+      by-outcome Idle e rest = other-entry t ts g c (counted Idle c) refl (run-by p t ts g c e) (moves-by p t ts g e) (rest g (counted Idle c) inv)
 
   -- ---- from a trace to a list
 
-  abbrev threads : List BlockName → List ℕ
-  threads l = map (λ (b : BlockName). b .thread) l
+  abbrev threads : List Move → List ℕ
+  threads l = map (λ (m : Move). m .thread) l
 
-  listed-cons : {l : List BlockName} {g v : Named} {m : BlockName} (c : Counts) → Invariant p A g → Alone (machineMoves p A) g m
-      → outcome p (m .thread) (g .machine) ≡ Moved → m ≡ blockOf g (m .thread) → Listed p l (movedNamed p (m .thread) g) v (counted Moved c)
+  listed-cons : {l : List Move} {g v : Named} {m : Move} (c : Counts) → Invariant p A g → Alone (machineMoves p A) g m
+      → outcome p (m .thread) (g .machine) ≡ Moved → m ≡ moveOf g (m .thread) → Listed p l (movedNamed p (m .thread) g) v (counted Moved c)
       → Listed p (m ∷ l) g v c
   unfolding UninterruptedFrom OthersOutside step movedNamed moved
   listed-cons {l} {g} {m} c inv alone e named r =
@@ -104,14 +104,14 @@ module _ (p : Program) (A : (t : ℕ) → Annotated p t) where
           subst (λ (x : State). UninterruptedFrom p x (threads l)) (sym (ap (λ (o : Outcome). after o s (moveBy (instructionOf p t s) t s)) e)) (r .uninterrupted))
       ; same-state = ap (λ (x : Run). x .state) (run-by p t (threads l) g c e) ∙ r .same-state
       ; same-moved = ap (λ (x : Run). x .counts .moved) (run-by p t (threads l) g c e) ∙ r .same-moved ∙ omega arith
-      ; same-blocks =
-          blocks-by p t (threads l) g e ∙ ap (λ (b : BlockName). b ∷ blocksFrom p (movedNamed p t g) (threads l)) (sym named)
-          ∙ ap (λ (k : List BlockName). m ∷ k) (r .same-blocks)
+      ; same-moves =
+          moves-by p t (threads l) g e ∙ ap (λ (b : Move). b ∷ movesFrom p (movedNamed p t g) (threads l)) (sym named)
+          ∙ ap (λ (k : List Move). m ∷ k) (r .same-moves)
       }
 
-  pub listed : {g v : Named} {l : List BlockName} (c : Counts) → Uninterrupted (machineMoves p A) g l v → Invariant p A g → Listed p l g v c
-  unfolding UninterruptedFrom runFrom blocksFrom
-  listed c alone-nil inv = record { uninterrupted = tt; same-state = refl; same-moved = sym (add-zero (c .moved)); same-blocks = refl }
+  pub listed : {g v : Named} {l : List Move} (c : Counts) → Uninterrupted (machineMoves p A) g l v → Invariant p A g → Listed p l g v c
+  unfolding UninterruptedFrom runFrom movesFrom
+  listed c alone-nil inv = record { uninterrupted = tt; same-state = refl; same-moved = sym (add-zero (c .moved)); same-moves = refl }
   listed {v} c (alone-cons {m} {l} alone X rest) inv =
       let inv′ = invariant-moved p A inv (m .thread) (X .moved) in
       listed-cons c inv alone (X .moved) (X .named)

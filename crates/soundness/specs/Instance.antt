@@ -1,4 +1,4 @@
--- The step machine as an instance of `Moves`: states with the blocks finished, moves named by their blocks, under the invariant that
+-- The step machine as an instance of `Moves`: states with the blocks finished, moves with their blocks, under the invariant that
 -- each thread holds the locks that its place says. Only the proof of demand 3 speaks of it.
 use Prim.Native.Nat.{ℕ, _≤_, _<_}
 use mathlib.Core.Path.{_≡_}
@@ -14,7 +14,7 @@ use Rattle.program.specs.declared.instruction.Instruction.the-variants.{End}
 use Rattle.reduction.specs.Moves.{Moves}
 use Rattle.soundness.specs.Access.{Owns, TakesBelow}
 use Rattle.soundness.specs.Annotation.{Row, Leads, Flows}
-use Rattle.soundness.specs.Naming.{BlockName, Named, blockOf, movedNamed}
+use Rattle.soundness.specs.Naming.{BlockName, Move, Named, blockName, blockOf, moveOf, movedNamed}
 use Rattle.soundness.specs.Prefix.{outer, isInner, statusOf}
 
 -- each place of thread t's code has a row, and every move follows
@@ -42,19 +42,19 @@ module _ (p : Program) (A : (t : ℕ) → Annotated p t) where
     pub finished-count : length (g .finished) ≡ length (p .threads)
 
   -- the move m leads from g to u
-  pub record Moving (g : Named) (m : BlockName) (u : Named) : Type 0 where
+  pub record Moving (g : Named) (m : Move) (u : Named) : Type 0 where
     pub invariant : Invariant g
     pub moved : outcome p (m .thread) (g .machine) ≡ Moved
-    pub named : m ≡ blockOf g (m .thread)
+    pub named : m ≡ moveOf g (m .thread)
     pub next : u ≡ movedNamed p (m .thread) g
 
   abbrev pub machineMoves : Moves
   machineMoves = record
     { State = Named
-    ; Move = BlockName
+    ; Move = Move
     ; Block = BlockName
     ; thread = λ m. m .thread
-    ; block = λ m. m
+    ; block = blockName
     ; step = Moving
     ; status = λ g t. statusOf (rowOf g t .prefix)
     ; blockAt = blockOf

@@ -1,19 +1,28 @@
--- The blocks that a list runs, by name: each move's thread, and how many blocks that thread had finished before. A move outside every
--- block is a block of one.
+-- The moves that a list makes: who moves, from which place with which registers, and in which block. A block is named by its thread and
+-- how many blocks that thread had finished before; a move outside every block is a block of one.
 use Prim.Native.Nat.{ℕ, suc}
 use mathlib.Core.Bool.{Bool, true, false}
 use mathlib.Core.List.{List, [], _∷_}
 use lib.ListN.{length, getD, set, replicate}
 use Rattle.machine.specs.Block.{inside}
-use Rattle.machine.specs.State.{State, start}
-use Rattle.machine.specs.Step.{instructionOf, moveBy, outcome, after}
+use Rattle.machine.specs.State.{State, start, threadOf}
+use Rattle.machine.specs.Step.{instructionOf, moveBy, outcome}
 use Rattle.machine.specs.declared.thread.Outcome.{Outcome}
 use Rattle.machine.specs.declared.thread.Outcome.the-variants.{Moved, Waiting, Idle}
+use Rattle.machine.specs.declared.thread.Thread.{Thread}
 use Rattle.program.specs.Layout.{Program}
 
 pub record BlockName : Type 0 where
   pub thread : ℕ
   pub number : ℕ
+
+pub record Move : Type 0 where
+  pub thread : ℕ
+  pub number : ℕ
+  pub before : Thread
+
+unfoldable pub blockName : Move → BlockName
+blockName m = record { thread = m .thread; number = m .number }
 
 -- a state, and how many blocks each thread has finished
 pub record Named : Type 0 where
@@ -27,7 +36,11 @@ namedStart p = record { machine = start p; finished = replicate (length (p .thre
 unfoldable pub blockOf : Named → ℕ → BlockName
 blockOf g t = record { thread = t; number = getD (g .finished) t 0 }
 
--- the state after thread t's move
+-- the move that thread t makes next
+unfoldable pub moveOf : Named → ℕ → Move
+moveOf g t = record { thread = t; number = getD (g .finished) t 0; before = threadOf (g .machine) t }
+
+-- the state after it
 unfoldable pub moved : Program → ℕ → State → State
 moved p t s = moveBy (instructionOf p t s) t s
 
@@ -48,16 +61,16 @@ afterNamed Moved g g′ = g′
 afterNamed Waiting g g′ = g
 afterNamed Idle g g′ = g
 
-abbrev pub alsoNamed : Outcome → BlockName → List BlockName → List BlockName
-alsoNamed Moved b bs = b ∷ bs
-alsoNamed Waiting b bs = bs
-alsoNamed Idle b bs = bs
+abbrev pub alsoMoved : Outcome → Move → List Move → List Move
+alsoMoved Moved m ms = m ∷ ms
+alsoMoved Waiting m ms = ms
+alsoMoved Idle m ms = ms
 
--- the blocks of the moves of a list, in order
-unfoldable pub blocksFrom : Program → Named → List ℕ → List BlockName
-blocksFrom p g [] = []
-blocksFrom p g (t ∷ ts) =
-    alsoNamed (outcome p t (g .machine)) (blockOf g t) (blocksFrom p (afterNamed (outcome p t (g .machine)) g (movedNamed p t g)) ts)
+-- the moves of a list, in order
+unfoldable pub movesFrom : Program → Named → List ℕ → List Move
+movesFrom p g [] = []
+movesFrom p g (t ∷ ts) =
+    alsoMoved (outcome p t (g .machine)) (moveOf g t) (movesFrom p (afterNamed (outcome p t (g .machine)) g (movedNamed p t g)) ts)
 
-unfoldable pub blocks : Program → List ℕ → List BlockName
-blocks p ts = blocksFrom p (namedStart p) ts
+unfoldable pub moves : Program → List ℕ → List Move
+moves p ts = movesFrom p (namedStart p) ts

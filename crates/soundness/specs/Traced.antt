@@ -8,23 +8,23 @@ use Rattle.machine.specs.Run.{Counts, Run, runFrom}
 use Rattle.program.specs.Layout.{Program}
 use Rattle.reduction.specs.Reduction.{Trace}
 use Rattle.soundness.specs.Instance.{Annotated, Invariant, machineMoves}
-use Rattle.soundness.specs.Naming.{BlockName, Named, blocksFrom}
+use Rattle.soundness.specs.Naming.{Move, Named, movesFrom}
 
 -- a run that begins with these counts
 abbrev pub runOf : Program → Counts → Named → List ℕ → Run
 runOf p c g ts = runFrom p (record { counts = c; state = g .machine }) ts
 
--- the list's moves, named by their blocks, lead where the list does
+-- the list's moves lead where the list does
 pub record Traced (p : Program) (A : (t : ℕ) → Annotated p t) (ts : List ℕ) (g : Named) (c : Counts) : Type 0 where
   pub last : Named
-  pub trace : Trace (machineMoves p A) g (blocksFrom p g ts) last
+  pub trace : Trace (machineMoves p A) g (movesFrom p g ts) last
   pub invariant : Invariant p A last
   pub same-state : last .machine ≡ runOf p c g ts .state
-  pub same-moved : runOf p c g ts .counts .moved ≡ c .moved + length (blocksFrom p g ts)
+  pub same-moved : runOf p c g ts .counts .moved ≡ c .moved + length (movesFrom p g ts)
 
 -- the threads of the moves, as a list, lead where the moves do
-pub record Listed (p : Program) (l : List BlockName) (g v : Named) (c : Counts) : Type 0 where
-  pub uninterrupted : UninterruptedFrom p (g .machine) (map (λ (b : BlockName). b .thread) l)
-  pub same-state : runOf p c g (map (λ (b : BlockName). b .thread) l) .state ≡ v .machine
-  pub same-moved : runOf p c g (map (λ (b : BlockName). b .thread) l) .counts .moved ≡ c .moved + length l
-  pub same-blocks : blocksFrom p g (map (λ (b : BlockName). b .thread) l) ≡ l
+pub record Listed (p : Program) (l : List Move) (g v : Named) (c : Counts) : Type 0 where
+  pub uninterrupted : UninterruptedFrom p (g .machine) (map (λ (m : Move). m .thread) l)
+  pub same-state : runOf p c g (map (λ (m : Move). m .thread) l) .state ≡ v .machine
+  pub same-moved : runOf p c g (map (λ (m : Move). m .thread) l) .counts .moved ≡ c .moved + length l
+  pub same-moves : movesFrom p g (map (λ (m : Move). m .thread) l) ≡ l
