@@ -105,6 +105,7 @@ module _ (p : Program) (A : (t : ℕ) → Annotated p t) where
       let L = listed p A none (R .uninterrupted) invariant-start in
       record
       { serial = map (λ (m : Move). m .thread) (R .moves)
+      ; threads = L .threads
       ; uninterrupted = L .uninterrupted
       ; same-state = L .same-state ∙ T .same-state
       ; same-moved = L .same-moved ∙ ap (λ (n : ℕ). 0 + n) (same-length (machineMoves p A) R) ∙ sym (T .same-moved)

@@ -16,12 +16,13 @@ use Rattle.machine.specs.declared.thread.Outcome.the-variants.{Moved, Waiting, 
 use Rattle.program.specs.Layout.{Program}
 use Rattle.reduction.specs.Moves.{outside}
 use Rattle.reduction.specs.Reduction.{Trace, trace-nil, trace-cons, Uninterrupted, alone-nil, alone-cons, Alone}
+use Rattle.soundness.specs.Demand.{ThreadsOf}
 use Rattle.soundness.specs.Instance.{Annotated, Invariant, Moving, machineMoves, rowOf}
 use Rattle.soundness.specs.Naming.{Move, Named, moveOf, moved, movedNamed, afterNamed, alsoMoved, movesFrom}
 use Rattle.soundness.specs.Prefix.{statusOf}
 use Rattle.soundness.specs.Traced.{runOf, Traced, Listed}
 use Rattle.soundness.proofs.Instance.{inside-row}
-use Rattle.soundness.proofs.Move.{invariant-moved}
+use Rattle.soundness.proofs.Move.{in-program, invariant-moved}
 use Rattle.soundness.proofs.Prefix.{outside-outer}
 
 -- ---- one entry of the list
@@ -43,6 +44,17 @@ module _ (p : Program) (t : ℕ) (ts : List ℕ) (g : Named) where
       after-named Moved = refl
       after-named Waiting = refl
       after-named Idle = refl
+
+-- ---- thread numbers
+
+threads-nil : (p : Program) → ThreadsOf p []
+unfolding ThreadsOf
+threads-nil p i h = absurd (omega arith)
+
+threads-cons : (p : Program) (t : ℕ) (ts : List ℕ) → t < length (p .threads) → ThreadsOf p ts → ThreadsOf p (t ∷ ts)
+unfolding ThreadsOf
+threads-cons p t ts b f zero h = b
+threads-cons p t ts b f (suc i) h = f i (omega arith)
 
 module _ (p : Program) (A : (t : ℕ) → Annotated p t) where
   -- ---- from a list to a trace
@@ -107,11 +119,12 @@ module _ (p : Program) (A : (t : ℕ) → Annotated p t) where
       ; same-moves =
           moves-by p t (threads l) g e ∙ ap (λ (b : Move). b ∷ movesFrom p (movedNamed p t g) (threads l)) (sym named)
           ∙ ap (λ (k : List Move). m ∷ k) (r .same-moves)
+      ; threads = threads-cons p t (threads l) (in-program p A inv t e) (r .threads)
       }
 
   pub listed : {g v : Named} {l : List Move} (c : Counts) → Uninterrupted (machineMoves p A) g l v → Invariant p A g → Listed p l g v c
   unfolding UninterruptedFrom runFrom movesFrom
-  listed c alone-nil inv = record { uninterrupted = tt; same-state = refl; same-moved = sym (add-zero (c .moved)); same-moves = refl }
+  listed c alone-nil inv = record { uninterrupted = tt; same-state = refl; same-moved = sym (add-zero (c .moved)); same-moves = refl; threads = threads-nil p }
   listed {v} c (alone-cons {m} {l} alone X rest) inv =
       let inv′ = invariant-moved p A inv (m .thread) (X .moved) in
       listed-cons c inv alone (X .moved) (X .named)

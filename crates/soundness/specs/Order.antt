@@ -23,6 +23,7 @@ Precedes a b = AllPairs (λ (x y : Move). ¬ ((blockName x ≡ b) × (blockName 
 
 pub record SerializedInOrder (p : Program) (list : List ℕ) : Type 0 where
   pub serial : List ℕ
+  pub threads : ThreadsOf p serial
   pub uninterrupted : Uninterrupted p serial
   pub same-state : run p serial .state ≡ run p list .state
   pub same-moved : run p serial .counts .moved ≡ run p list .counts .moved

@@ -7,6 +7,7 @@ use Rattle.machine.specs.Block.{UninterruptedFrom}
 use Rattle.machine.specs.Run.{Counts, Run, runFrom}
 use Rattle.program.specs.Layout.{Program}
 use Rattle.reduction.specs.Reduction.{Trace}
+use Rattle.soundness.specs.Demand.{ThreadsOf}
 use Rattle.soundness.specs.Instance.{Annotated, Invariant, machineMoves}
 use Rattle.soundness.specs.Naming.{Move, Named, movesFrom}
 
@@ -28,3 +29,4 @@ pub record Listed (p : Program) (l : List Move) (g v : Named) (c : Counts) : Typ
   pub same-state : runOf p c g (map (λ (m : Move). m .thread) l) .state ≡ v .machine
   pub same-moved : runOf p c g (map (λ (m : Move). m .thread) l) .counts .moved ≡ c .moved + length l
   pub same-moves : movesFrom p g (map (λ (m : Move). m .thread) l) ≡ l
+  pub threads : ThreadsOf p (map (λ (m : Move). m .thread) l)
