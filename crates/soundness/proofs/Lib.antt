@@ -13,3 +13,4 @@ pub mod Serialize
 pub mod Annotated
 pub mod Accepted
 pub mod Demand
+pub mod Example

@@ -2,6 +2,7 @@
 pub mod Demand
 pub mod Naming
 pub mod Order
+pub mod Example
 pub mod Typing
 pub mod Prefix
 pub mod Annotation
