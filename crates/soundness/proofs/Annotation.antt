@@ -5,7 +5,7 @@ use native.Mathlib.Nat.{add-zero, suc-add, add-suc, zero-add}
 use native.Mathlib.Omega.{arith}
 use mathlib.Core.Path.{_≡_, refl, sym, ap, _∙_, subst}
 use mathlib.Core.Logic.{dite}
-use mathlib.Core.List.{List, [], _∷_, _++_, map}
+use mathlib.Core.List.{List, [], _∷_, _++_, map, map-append}
 use lib.ListN.{length, getD, length-append}
 use Rattle.atomicity.specs.Atomicity.{join, closure}
 use Rattle.atomicity.specs.declared.Atomicity.{Atomicity}
@@ -41,17 +41,20 @@ module _ {A : Type 0} {h : ℕ → A} where
   pub reads-tail : {w : ℕ} {x : A} {l : List A} → Reads h w (x ∷ l) → Reads h (suc w) l
   reads-tail (reads-cons e r) = r
 
-  pub reads-first : {w : ℕ} (l k : List A) → Reads h w (l ++ k) → Reads h w l
-  reads-first [] k r = reads-nil
-  reads-first (x ∷ l) k (reads-cons e r) = reads-cons e (reads-first l k r)
+  reads-before : {w : ℕ} (l k : List A) → Reads h w (l ++ k) → Reads h w l
+  reads-before [] k r = reads-nil
+  reads-before (x ∷ l) k (reads-cons e r) = reads-cons e (reads-before l k r)
 
-  reads-second : {w : ℕ} (l : List A) {k : List A} → Reads h w (l ++ k) → Reads h (w + length l) k
-  reads-second {w} [] {k} r = subst (λ (v : ℕ). Reads h v k) (sym (add-zero w)) r
-  reads-second {w} (x ∷ l) {k} (reads-cons e r) = subst (λ (v : ℕ). Reads h v k) (omega arith) (reads-second l r)
+  reads-behind : {w : ℕ} (l : List A) {k : List A} → Reads h w (l ++ k) → Reads h (w + length l) k
+  reads-behind {w} [] {k} r = subst (λ (v : ℕ). Reads h v k) (sym (add-zero w)) r
+  reads-behind {w} (x ∷ l) {k} (reads-cons e r) = subst (λ (v : ℕ). Reads h v k) (omega arith) (reads-behind l r)
 
-  -- where the first list has this length
-  pub reads-rest : {w : ℕ} (l : List A) {k : List A} {n : ℕ} → length l ≡ n → Reads h w (l ++ k) → Reads h (w + n) k
-  reads-rest {w} l {k} e r = subst (λ (n : ℕ). Reads h (w + n) k) e (reads-second l r)
+  -- n elements, one more, and the rest
+  pub reads-apart : {C : Type 0} {w : ℕ} (l : List A) (x : A) (k : List A) {n : ℕ} → length l ≡ n → Reads h w (l ++ x ∷ k)
+      → (Reads h w l → h (w + n) ≡ x → Reads h (suc (w + n)) k → C) → C
+  reads-apart {w} l x k e r go =
+      let r′ = subst (λ (n : ℕ). Reads h (w + n) (x ∷ k)) e (reads-behind l r) in
+      go (reads-before l (x ∷ k) r) (reads-head r′) (reads-tail r′)
 
 reads-shift : {A : Type 0} {h k : ℕ → A} {w : ℕ} (v : ℕ) {l : List A} → ((q : ℕ) → k (v + q) ≡ h q) → Reads h w l → Reads k (v + w) l
 reads-shift v f reads-nil = reads-nil
@@ -77,10 +80,6 @@ all-append all-nil b = b
 all-append (all-cons x a) b = all-cons x (all-append a b)
 
 -- ---- the rows
-
-map-append : {A B : Type 0} (f : A → B) (l k : List A) → map f (l ++ k) ≡ map f l ++ map f k
-map-append f [] k = refl
-map-append f (x ∷ l) k = ap (λ (r : List _). f x ∷ r) (map-append f l k)
 
 abbrev pub instructionAt : Row → Instruction
 instructionAt r = r .instruction

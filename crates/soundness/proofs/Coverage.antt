@@ -27,7 +27,7 @@ use Rattle.reduction.specs.Sequence.{All, all-nil, all-cons}
 use Rattle.soundness.specs.Annotation.{Row, row, rows, Reads, Span}
 use Rattle.soundness.specs.Prefix.{Prefix, outer, inner, isInner, behind, entered}
 use Rattle.soundness.specs.Typing.{Typed, typed-done, typed-plain, typed-choice, typed-loop, typed-block}
-use Rattle.soundness.proofs.Annotation.{reads-head, reads-tail, reads-first, reads-rest, reads-all, all-append, span-empty, span-one, span-join, length-rows}
+use Rattle.soundness.proofs.Annotation.{reads-head, reads-tail, reads-apart, reads-all, all-append, span-empty, span-one, span-join, length-rows}
 
 -- ---- covered by some instruction of a list
 
@@ -130,9 +130,9 @@ module _ (h : ℕ → Row) where
   unfolding isInner
   agrees-outer q b e f = f ∙ sym (ap (λ (r : Row). isInner (r .prefix)) e)
 
-  -- a place with an inner row that something covers
-  agrees-inner : (q : ℕ) (b : Bool) → isInner (h q .prefix) ≡ true → b ≡ true → b ≡ isInner (h q .prefix)
-  agrees-inner q b e f = f ∙ sym e
+  -- the code's first place, whose row is outer
+  agrees-start : (c : Code) {i : Instruction} {s : LockSet} {w : ℕ} → h w ≡ row i s outer → Agrees c w w
+  agrees-start c {w} e = agrees-outer w (coveredFrom w (flat c) w) e (covered-before (flat c) w w (omega arith))
 
 module _ {p : Program} {t : ℕ} where
   -- it covers nothing behind it
@@ -164,77 +164,69 @@ module _ {p : Program} {t : ℕ} where
       all-cons refl (all-append (all-inner d₁ x) (all-cons refl (all-inner d (composition x y))))
 
 
+  -- what the code from place w on covers up to place v, its rows say
   pub coverage : (h : ℕ → Row) {s s′ : LockSet} {c : Code} {a : Atomicity} (d : Typed p t s c s′ a) (w v : ℕ) → w + size c ≡ v
       → Reads h w (rows d outer) → Span (Agrees h c w) w v
   unfolding rows size isInner
   coverage h typed-done w v e r = λ q k l. absurd (omega arith)
   coverage h (typed-plain {i} {c} f l d) w v e r =
-      span-join (Agrees h (plain i c) w)
-      (span-one (Agrees h (plain i c) w) w
-        (agrees-outer h w (coveredFrom w (flat (plain i c)) w) (reads-head r) (covered-before (flat (plain i c)) w w (omega arith))))
+      let P = Agrees h (plain i c) w in
+      span-join P (span-one P w (agrees-start h (plain i c) (reads-head r)))
       (λ q k l. covered-plain i c w q f ∙ coverage h d (suc w) v (omega arith) (reads-tail r) q k l)
   coverage h (typed-choice {r = reg} {a} {b} {c} d₁ d₂ d) w v e r =
       let P = Agrees h (choice reg a b c) w in
       let w₁ = suc w + size a in
       let w₂ = suc w₁ + size b in
-      let r₁ = reads-tail r in
-      let r₂ = reads-rest (rows d₁ outer) (length-rows d₁ outer) r₁ in
-      let r₃ = reads-rest (rows d₂ outer) (length-rows d₂ outer) (reads-tail r₂) in
-      span-join P
-      (span-one P w (agrees-outer h w (coveredFrom w (flat (choice reg a b c)) w) (reads-head r) (covered-before (flat (choice reg a b c)) w w (omega arith))))
+      reads-apart (rows d₁ outer) _ _ (length-rows d₁ outer) (reads-tail r) λ r₁ h₁ r′.
+      reads-apart (rows d₂ outer) _ _ (length-rows d₂ outer) r′ λ r₂ h₂ r₃.
+      span-join P (span-one P w (agrees-start h (choice reg a b c) (reads-head r)))
       (span-join P
       (λ q k l. covered-choice reg a b c w q
         ∙ or-left _ _ (or-false _ _ (covered-before (flat b) (suc w₁) q (omega arith)) (covered-before (flat c) (suc w₂) q (omega arith)))
-        ∙ coverage h d₁ (suc w) w₁ refl (reads-first (rows d₁ outer) _ r₁) q k l)
+        ∙ coverage h d₁ (suc w) w₁ refl r₁ q k l)
       (span-join P
-      (span-one P w₁ (agrees-outer h w₁ (coveredFrom w (flat (choice reg a b c)) w₁) (reads-head r₂) (covered-choice reg a b c w w₁
+      (span-one P w₁ (agrees-outer h w₁ _ h₁ (covered-choice reg a b c w w₁
         ∙ or-false _ _ (covered-past d₁ (suc w) w₁ (omega arith))
           (or-false _ _ (covered-before (flat b) (suc w₁) w₁ (omega arith)) (covered-before (flat c) (suc w₂) w₁ (omega arith))))))
       (span-join P
       (λ q k l. covered-choice reg a b c w q
         ∙ or-right _ _ (covered-past d₁ (suc w) q (omega arith))
         ∙ or-left _ _ (covered-before (flat c) (suc w₂) q (omega arith))
-        ∙ coverage h d₂ (suc w₁) w₂ refl (reads-first (rows d₂ outer) _ (reads-tail r₂)) q k l)
+        ∙ coverage h d₂ (suc w₁) w₂ refl r₂ q k l)
       (span-join P
-      (span-one P w₂ (agrees-outer h w₂ (coveredFrom w (flat (choice reg a b c)) w₂) (reads-head r₃) (covered-choice reg a b c w w₂
+      (span-one P w₂ (agrees-outer h w₂ _ h₂ (covered-choice reg a b c w w₂
         ∙ or-false _ _ (covered-past d₁ (suc w) w₂ (omega arith))
           (or-false _ _ (covered-past d₂ (suc w₁) w₂ (omega arith)) (covered-before (flat c) (suc w₂) w₂ (omega arith))))))
       (λ q k l. covered-choice reg a b c w q
         ∙ or-right _ _ (covered-past d₁ (suc w) q (omega arith))
         ∙ or-right _ _ (covered-past d₂ (suc w₁) q (omega arith))
-        ∙ coverage h d (suc w₂) v (omega arith) (reads-tail r₃) q k l)))))
+        ∙ coverage h d (suc w₂) v (omega arith) r₃ q k l)))))
   coverage h (typed-loop {r = reg} {a} {c} d₁ d) w v e r =
       let P = Agrees h (loop reg a c) w in
       let w₁ = suc w + size a in
-      let r₁ = reads-tail r in
-      let r₂ = reads-rest (rows d₁ outer) (length-rows d₁ outer) r₁ in
-      span-join P
-      (span-one P w (agrees-outer h w (coveredFrom w (flat (loop reg a c)) w) (reads-head r) (covered-before (flat (loop reg a c)) w w (omega arith))))
+      reads-apart (rows d₁ outer) _ _ (length-rows d₁ outer) (reads-tail r) λ r₁ h₁ r₂.
+      span-join P (span-one P w (agrees-start h (loop reg a c) (reads-head r)))
       (span-join P
       (λ q k l. covered-loop reg a c w q
         ∙ or-left _ _ (covered-before (flat c) (suc w₁) q (omega arith))
-        ∙ coverage h d₁ (suc w) w₁ refl (reads-first (rows d₁ outer) _ r₁) q k l)
+        ∙ coverage h d₁ (suc w) w₁ refl r₁ q k l)
       (span-join P
-      (span-one P w₁ (agrees-outer h w₁ (coveredFrom w (flat (loop reg a c)) w₁) (reads-head r₂) (covered-loop reg a c w w₁
+      (span-one P w₁ (agrees-outer h w₁ _ h₁ (covered-loop reg a c w w₁
         ∙ or-false _ _ (covered-past d₁ (suc w) w₁ (omega arith)) (covered-before (flat c) (suc w₁) w₁ (omega arith)))))
       (λ q k l. covered-loop reg a c w q
         ∙ or-right _ _ (covered-past d₁ (suc w) q (omega arith))
-        ∙ coverage h d (suc w₁) v (omega arith) (reads-tail r₂) q k l)))
+        ∙ coverage h d (suc w₁) v (omega arith) r₂ q k l)))
   coverage h (typed-block {a} {c} d₁ n d) w v e r =
       let P = Agrees h (block a c) w in
+      let Q : ℕ → Type 0 = λ q. isInner (h q .prefix) ≡ true in
       let w₁ = suc w + size a in
-      let r₁ = reads-tail r in
-      let r₂ = reads-rest (rows d₁ (inner Both)) (length-rows d₁ (inner Both)) r₁ in
-      let inside : Span (λ (q : ℕ). isInner (h q .prefix) ≡ true) (suc w) w₁ =
-            subst (λ (n : ℕ). Span (λ (q : ℕ). isInner (h q .prefix) ≡ true) (suc w) (suc w + n)) (length-rows d₁ (inner Both))
-            (reads-all (λ (r : Row). isInner (r .prefix) ≡ true) (reads-first (rows d₁ (inner Both)) _ r₁) (all-inner d₁ Both)) in
-      span-join P
-      (span-one P w (agrees-outer h w (coveredFrom w (flat (block a c)) w) (reads-head r) (covered-before (flat (block a c)) w w (omega arith))))
+      reads-apart (rows d₁ (inner Both)) _ _ (length-rows d₁ (inner Both)) (reads-tail r) λ r₁ h₁ r₂.
+      let body : Span Q (suc w) w₁ = subst (λ (n : ℕ). Span Q (suc w) (suc w + n)) (length-rows d₁ (inner Both)) (reads-all (λ (r : Row). isInner (r .prefix) ≡ true) r₁ (all-inner d₁ Both)) in
+      let end : Q w₁ = ap (λ (r : Row). isInner (r .prefix)) h₁ in
+      span-join P (span-one P w (agrees-start h (block a c) (reads-head r)))
       (span-join P
-      (λ q k l. agrees-inner h q (coveredFrom w (flat (block a c)) q)
-        (span-join (λ (q : ℕ). isInner (h q .prefix) ≡ true) inside (span-one (λ (q : ℕ). isInner (h q .prefix) ≡ true) w₁ (ap (λ (r : Row). isInner (r .prefix)) (reads-head r₂))) q k l)
-        (covered-block a c w q ∙ or-true _ _ (covers-inside w (size a + 1) q k (omega arith))))
+      (λ q k l. covered-block a c w q ∙ or-true _ _ (covers-inside w (size a + 1) q k (omega arith)) ∙ sym (span-join Q body (span-one Q w₁ end) q k l))
       (λ q k l. covered-block a c w q
         ∙ or-right _ _ (covers-past w (size a + 1) q (omega arith))
         ∙ or-right _ _ (covered-past d₁ (suc w) q (omega arith))
-        ∙ coverage h d (suc w₁) v (omega arith) (reads-tail r₂) q k l))
+        ∙ coverage h d (suc w₁) v (omega arith) r₂ q k l))

@@ -23,7 +23,7 @@ use Rattle.program.specs.declared.instruction.Instruction.the-variants.{Set, Co
 use Rattle.soundness.specs.Annotation.{Row, row, rows, Reads, Span, Follows, Leads, FlowsFrom, Flows, Part}
 use Rattle.soundness.specs.Prefix.{Prefix, outer, inner, behind, entered, Below, Proper, proper-outer, proper-inner, Goes}
 use Rattle.soundness.specs.Typing.{Legal, Typed, typed-done, typed-plain, typed-choice, typed-loop, typed-block}
-use Rattle.soundness.proofs.Annotation.{reads-head, reads-tail, reads-first, reads-rest, span-empty, span-one, span-join, length-rows}
+use Rattle.soundness.proofs.Annotation.{reads-head, reads-tail, reads-apart, span-empty, span-one, span-join, length-rows}
 use Rattle.soundness.proofs.Prefix.{behind-both, behind-behind, below-refl, below-behind, below-first, below-second, below-turn, proper-below, goes-behind, goes-in, goes-out, proper-entered}
 
 -- a plain instruction goes to the next place
@@ -55,6 +55,8 @@ branches P r a n q x y = by-test (eqb (reg r a) 0)
     by-test false = y
 
 module _ (p : Program) (t : ℕ) where
+  -- ---- one move
+
   -- an opener or closer keeps the lock set
   keeps : (i : Instruction) {s s′ : LockSet} → locksAfter p t 0 i s ≡ fine s → s ≡ s′ → Legal p t i s s′
   keeps i e k = record { offset = 0; judged = e ∙ ap fine k }
@@ -72,98 +74,98 @@ module _ (p : Program) (t : ℕ) where
     abbrev Arrives : Row → ℕ → Type 0
     Arrives from to = Follows p t from (h to) × (to ≤ last)
 
-    -- a row's flow is the flow from what is read there
-    flows-at : {from : Row} (q : ℕ) → h q ≡ from → FlowsFrom p t h last from q → Span (Flows p t h last) q (suc q)
-    flows-at q e f = span-one (Flows p t h last) q (subst (λ (r : Row). FlowsFrom p t h last r q) (sym e) f)
+    -- the same place, said otherwise
+    arrives-at : {from : Row} {to to′ : ℕ} → to ≡ to′ → Follows p t from (h to) → to ≤ last → Arrives from to′
+    arrives-at {from} e f b = subst (Arrives from) e (f, b)
+
+    abbrev Moves : ℕ → ℕ → Type 0
+    Moves = Span (Flows p t h last)
+
+    -- the move from place q
+    move : {from : Row} (q : ℕ) → h q ≡ from → FlowsFrom p t h last from q → Moves q (suc q)
+    move q e f = span-one (Flows p t h last) q (subst (λ (r : Row). FlowsFrom p t h last r q) (sym e) f)
+
+    -- moves, and then moves
+    infixr 5 _then_
+    _then_ : {w u v : ℕ} → Moves w u → Moves u v → Moves w v
+    x then y = span-join (Flows p t h last) x y
 
     -- code may go on at what is read there
     leads-at : {s : LockSet} {i : Instruction} {m n : Prefix} {q : ℕ} → h q ≡ row i s n → Below m n → Leads s m (h q)
     leads-at {s} {m} e l = subst (Leads s m) (sym e) (record { same = refl; below = l })
 
+    abbrev Code-at : LockSet → Prefix → ℕ → ℕ → Type 0
+    Code-at = Part p t h last
+
     -- ---- each construct, from its parts
 
-    done-part : {s : LockSet} {m : Prefix} {w : ℕ} → Leads s (behind m Both) (h w) → Part p t h last s m w w
+    done-part : {s : LockSet} {m : Prefix} {w : ℕ} → Leads s (behind m Both) (h w) → Code-at s m w w
     done-part {s} {m} {w} l = record { begun = subst (λ (n : Prefix). Leads s n (h w)) (behind-both m) l; moves = span-empty (Flows p t h last) w }
 
     plain-part : {i : Instruction} {s s′ : LockSet} {m : Prefix} {w v : ℕ} → formOf i ≡ Plain → Legal p t i s s′ → h w ≡ row i s m
-        → Proper (behind m (atomicityOf p t i)) → w < last → Part p t h last s′ (behind m (atomicityOf p t i)) (suc w) v → Part p t h last s m w v
-    plain-part {i} {s} {m} {w} f l e k b rest = record
-      { begun = leads-at e (below-refl m)
-      ; moves = span-join (Flows p t h last)
-          (flows-at w e λ r. subst (Arrives (row i s m)) (omega (arith, plain-next i f r w))
-            (record { legal = subst (Legal p t i s) (rest .begun .same) l; goes = goes-behind m (rest .begun .below) k }, b))
-          (rest .moves)
-      }
+        → Proper (behind m (atomicityOf p t i)) → w < last → Code-at s′ (behind m (atomicityOf p t i)) (suc w) v → Code-at s m w v
+    plain-part {i} {s} {m} {w} f l h₁ proper b rest =
+        let follows : Follows p t (row i s m) (h (suc w)) = record { legal = subst (Legal p t i s) (rest .begun .same) l; goes = goes-behind m (rest .begun .below) proper } in
+        record
+        { begun = leads-at h₁ (below-refl m)
+        ; moves = move w h₁ (λ r. arrives-at (omega (arith, plain-next i f r w)) follows b) then rest .moves
+        }
 
     choice-part : {r n k : ℕ} {s s′ : LockSet} {m : Prefix} (x y : Atomicity) {w e f v : ℕ}
-        → h w ≡ row (If r n) s m → w + n ≡ e → Part p t h last s m (suc w) e
-        → h e ≡ row (Else k) s′ (behind m x) → e + k ≡ f → Part p t h last s m (suc e) f
-        → h f ≡ row End s′ (behind m (join x y)) → f < last → Part p t h last s′ (behind m (join x y)) (suc f) v
-        → Proper (behind m (join x y)) → Part p t h last s m w v
+        → h w ≡ row (If r n) s m → w + n ≡ e → Code-at s m (suc w) e
+        → h e ≡ row (Else k) s′ (behind m x) → e + k ≡ f → Code-at s m (suc e) f
+        → h f ≡ row End s′ (behind m (join x y)) → f < last → Code-at s′ (behind m (join x y)) (suc f) v
+        → Proper (behind m (join x y)) → Code-at s m w v
     unfolding placeAfter locksAfter atomicityOf
-    choice-part {r} {n} {k} {s} {s′} {m} x y {w} {e} {f} h₁ e₁ first h₂ e₂ second h₃ b rest proper =
-        let right = proper-below (below-first m x y) proper in
+    choice-part {r} {n} {k} {m} x y {w} {e} {f} h₁ e₁ first h₂ e₂ second h₃ b rest proper =
+        let proper₁ = proper-below (below-first m x y) proper in
+        let proper₀ = proper-below (below-behind m x) proper₁ in
         record
         { begun = leads-at h₁ (below-refl m)
         ; moves =
-            span-join (Flows p t h last) (flows-at w h₁ λ reg.
-              let on = silent (If r n) refl refl (first .begun) (proper-below (below-behind m x) right) in
-              let off = silent (If r n) refl refl (second .begun) (proper-below (below-behind m x) right) in
-              branches (Arrives (row (If r n) s m)) reg r n w
-              (subst (Arrives (row (If r n) s m)) (omega arith) (off, omega arith))
-              (subst (Arrives (row (If r n) s m)) (omega arith) (on, omega arith)))
-            (span-join (Flows p t h last) (first .moves)
-            (span-join (Flows p t h last) (flows-at e h₂ λ reg.
-              subst (Arrives (row (Else k) s′ (behind m x))) (sym e₂)
-              (silent (Else k) refl refl (leads-at h₃ (below-first m x y)) right, omega arith))
-            (span-join (Flows p t h last) (second .moves)
-            (span-join (Flows p t h last) (flows-at f h₃ λ reg.
-              subst (Arrives (row End s′ (behind m (join x y)))) (omega arith)
-              (silent End refl refl (rest .begun) proper, b))
-            (rest .moves)))))
+            move w h₁ (λ g. branches (Arrives _) g r n w
+              (arrives-at (omega arith) (silent (If r n) refl refl (second .begun) proper₀) (omega arith))
+              (arrives-at (omega arith) (silent (If r n) refl refl (first .begun) proper₀) (omega arith)))
+            then first .moves
+            then move e h₂ (λ g. arrives-at (sym e₂) (silent (Else k) refl refl (leads-at h₃ (below-first m x y)) proper₁) (omega arith))
+            then second .moves
+            then move f h₃ (λ g. arrives-at (omega arith) (silent End refl refl (rest .begun) proper) b)
+            then rest .moves
         }
 
     loop-part : {r n : ℕ} {s : LockSet} (m : Prefix) (x : Atomicity) {w e v : ℕ}
-        → h w ≡ row (While r n) s (behind m (closure x)) → w + n ≡ e → Part p t h last s (behind m (closure x)) (suc w) e
-        → h e ≡ row (Again n) s (behind (behind m (closure x)) x) → e < last → Part p t h last s (behind m (closure x)) (suc e) v
-        → Proper (behind m (closure x)) → Part p t h last s m w v
+        → h w ≡ row (While r n) s (behind m (closure x)) → w + n ≡ e → Code-at s (behind m (closure x)) (suc w) e
+        → h e ≡ row (Again n) s (behind (behind m (closure x)) x) → e < last → Code-at s (behind m (closure x)) (suc e) v
+        → Proper (behind m (closure x)) → Code-at s m w v
     unfolding placeAfter locksAfter atomicityOf
-    loop-part {r} {n} {s} m x {w} {e} h₁ e₁ body h₂ b rest proper =
-        let from = row (While r n) s (behind m (closure x)) in
-        record
-        { begun = leads-at h₁ (below-behind m (closure x))
-        ; moves =
-            span-join (Flows p t h last) (flows-at w h₁ λ reg.
-              branches (Arrives from) reg r n w
-              (subst (Arrives from) (omega arith) (silent (While r n) refl refl (rest .begun) proper, b))
-              (subst (Arrives from) (omega arith) (silent (While r n) refl refl (body .begun) proper, omega arith)))
-            (span-join (Flows p t h last) (body .moves)
-            (span-join (Flows p t h last) (flows-at e h₂ λ reg.
-              subst (Arrives (row (Again n) s (behind (behind m (closure x)) x))) (omega arith)
-              (silent (Again n) refl refl (leads-at h₁ (below-turn m x)) (proper-below (below-turn m x) proper), omega arith))
-            (rest .moves)))
-        }
+    loop-part {r} {n} m x {w} {e} h₁ e₁ body h₂ b rest proper = record
+      { begun = leads-at h₁ (below-behind m (closure x))
+      ; moves =
+          move w h₁ (λ g. branches (Arrives _) g r n w
+            (arrives-at (omega arith) (silent (While r n) refl refl (rest .begun) proper) b)
+            (arrives-at (omega arith) (silent (While r n) refl refl (body .begun) proper) (omega arith)))
+          then body .moves
+          then move e h₂ (λ g. arrives-at (omega arith)
+            (silent (Again n) refl refl (leads-at h₁ (below-turn m x)) (proper-below (below-turn m x) proper)) (omega arith))
+          then rest .moves
+      }
 
     block-part : {n : ℕ} {s s′ : LockSet} (m : Prefix) (x : Atomicity) {w e v : ℕ}
-        → h w ≡ row (Atomic n) s m → w + n ≡ e → Part p t h last s (entered m) (suc w) e
-        → h e ≡ row End s′ (behind (entered m) x) → e < last → Part p t h last s′ (behind m x) (suc e) v
-        → Proper (behind m x) → Part p t h last s m w v
+        → h w ≡ row (Atomic n) s m → w + n ≡ e → Code-at s (entered m) (suc w) e
+        → h e ≡ row End s′ (behind (entered m) x) → e < last → Code-at s′ (behind m x) (suc e) v
+        → Proper (behind m x) → Code-at s m w v
     unfolding placeAfter locksAfter atomicityOf
-    block-part {n} {s} {s′} m x {w} {e} h₁ e₁ body h₂ b rest proper =
+    block-part {n} m x {w} {e} h₁ e₁ body h₂ b rest proper =
+        let proper₀ = proper-below (below-behind m x) proper in
         record
         { begun = leads-at h₁ (below-refl m)
         ; moves =
-            span-join (Flows p t h last) (flows-at w h₁ λ reg.
-              subst (Arrives (row (Atomic n) s m)) (omega arith)
-              (record
-                { legal = keeps (Atomic n) refl (body .begun .same)
-                ; goes = goes-in m (body .begun .below) (proper-below (below-behind m x) proper)
-                }, omega arith))
-            (span-join (Flows p t h last) (body .moves)
-            (span-join (Flows p t h last) (flows-at e h₂ λ reg.
-              subst (Arrives (row End s′ (behind (entered m) x))) (omega arith)
-              (record { legal = keeps End refl (rest .begun .same); goes = goes-out m x (rest .begun .below) proper }, b))
-            (rest .moves)))
+            move w h₁ (λ g. arrives-at (omega arith)
+              (record { legal = keeps (Atomic n) refl (body .begun .same); goes = goes-in m (body .begun .below) proper₀ }) (omega arith))
+            then body .moves
+            then move e h₂ (λ g. arrives-at (omega arith)
+              (record { legal = keeps End refl (rest .begun .same); goes = goes-out m x (rest .begun .below) proper }) b)
+            then rest .moves
         }
 
     -- ---- the whole code
@@ -171,9 +173,13 @@ module _ (p : Program) (t : ℕ) where
     proper-then : (m : Prefix) (a b : Atomicity) → Proper (behind m (composition a b)) → Proper (behind (behind m a) b)
     proper-then m a b k = rw (behind-behind m a b) k
 
+    proper-first : (m : Prefix) (a b : Atomicity) → Proper (behind m (composition a b)) → Proper (behind m a)
+    proper-first m a b k = proper-below (below-behind (behind m a) b) (proper-then m a b k)
+
     leads-then : {s : LockSet} {to : Row} (m : Prefix) (a b : Atomicity) → Leads s (behind m (composition a b)) to → Leads s (behind (behind m a) b) to
     leads-then m a b k = rw (behind-behind m a b) k
 
+    -- typed code that is read from place w to before v, and may go on at v
     pub flow : {s s′ : LockSet} {c : Code} {a : Atomicity} (d : Typed p t s c s′ a) (m : Prefix) (w v : ℕ) → w + size c ≡ v
         → Reads h w (rows d m) → Leads s′ (behind m a) (h v) → v ≤ last → Proper (behind m a) → Part p t h last s m w v
     unfolding rows size
@@ -181,39 +187,37 @@ module _ (p : Program) (t : ℕ) where
         let here : v ≡ w = omega arith in
         subst (Part p t h last s m w) (sym here) (done-part (subst (λ (q : ℕ). Leads s (behind m Both) (h q)) here exit))
     flow (typed-plain {i} {a} f l d) m w v e r exit fits proper =
-        let n = behind m (atomicityOf p t i) in
-        plain-part f l (reads-head r) (proper-below (below-behind n a) (proper-then m (atomicityOf p t i) a proper)) (omega arith)
-        (flow d n (suc w) v (omega arith) (reads-tail r) (leads-then m (atomicityOf p t i) a exit) fits (proper-then m (atomicityOf p t i) a proper))
-    flow (typed-choice {r = reg} {a} {b} {s} {s′ = s₁} {x} {y} {z} d₁ d₂ d) m w v e r exit fits proper =
+        let x = atomicityOf p t i in
+        plain-part f l (reads-head r) (proper-first m x a proper) (omega arith)
+        (flow d (behind m x) (suc w) v (omega arith) (reads-tail r) (leads-then m x a exit) fits (proper-then m x a proper))
+    flow (typed-choice {a} {b} {x} {y} {z} d₁ d₂ d) m w v e r exit fits proper =
         let n = behind m (join x y) in
-        let properₙ = proper-below (below-behind n z) (proper-then m (join x y) z proper) in
-        let r₁ = reads-tail r in
-        let r₂ = reads-rest (rows d₁ m) (length-rows d₁ m) r₁ in
-        let r₃ = reads-rest (rows d₂ m) (length-rows d₂ m) (reads-tail r₂) in
+        let proper₀ = proper-first m (join x y) z proper in
+        reads-apart (rows d₁ m) _ _ (length-rows d₁ m) (reads-tail r) λ r₁ h₁ r′.
+        reads-apart (rows d₂ m) _ _ (length-rows d₂ m) r′ λ r₂ h₂ r₃.
         choice-part x y (reads-head r) (omega arith)
-        (flow d₁ m (suc w) (suc w + size a) refl (reads-first (rows d₁ m) _ r₁) (leads-at (reads-head r₂) (below-refl (behind m x))) (omega arith) (proper-below (below-first m x y) properₙ))
-        (reads-head r₂) (omega arith)
-        (flow d₂ m (suc (suc w + size a)) (suc (suc w + size a) + size b) refl (reads-first (rows d₂ m) _ (reads-tail r₂)) (leads-at (reads-head r₃) (below-second m x y)) (omega arith) (proper-below (below-second m x y) properₙ))
-        (reads-head r₃) (omega arith)
-        (flow d n _ v (omega arith) (reads-tail r₃) (leads-then m (join x y) z exit) fits (proper-then m (join x y) z proper))
-        properₙ
-    flow (typed-loop {r = reg} {a} {c} {x} {z} d₁ d) m w v e r exit fits proper =
+        (flow d₁ m (suc w) (suc w + size a) refl r₁ (leads-at h₁ (below-refl (behind m x))) (omega arith) (proper-below (below-first m x y) proper₀))
+        h₁ (omega arith)
+        (flow d₂ m (suc (suc w + size a)) (suc (suc w + size a) + size b) refl r₂ (leads-at h₂ (below-second m x y)) (omega arith)
+          (proper-below (below-second m x y) proper₀))
+        h₂ (omega arith)
+        (flow d n _ v (omega arith) r₃ (leads-then m (join x y) z exit) fits (proper-then m (join x y) z proper))
+        proper₀
+    flow (typed-loop {a} {x} {z} d₁ d) m w v e r exit fits proper =
         let n = behind m (closure x) in
-        let properₙ = proper-below (below-behind n z) (proper-then m (closure x) z proper) in
-        let r₁ = reads-tail r in
-        let r₂ = reads-rest (rows d₁ n) (length-rows d₁ n) r₁ in
+        let proper₀ = proper-first m (closure x) z proper in
+        reads-apart (rows d₁ n) _ _ (length-rows d₁ n) (reads-tail r) λ r₁ h₁ r₂.
         loop-part m x (reads-head r) (omega arith)
-        (flow d₁ n (suc w) (suc w + size a) refl (reads-first (rows d₁ n) _ r₁) (leads-at (reads-head r₂) (below-refl (behind n x))) (omega arith) (proper-below (below-turn m x) properₙ))
-        (reads-head r₂) (omega arith)
-        (flow d n _ v (omega arith) (reads-tail r₂) (leads-then m (closure x) z exit) fits (proper-then m (closure x) z proper))
-        properₙ
-    flow (typed-block {a} {c} {s′ = s₁} {x} {z} d₁ top d) m w v e r exit fits proper =
-        let n = behind m x in
-        let properₙ = proper-below (below-behind n z) (proper-then m x z proper) in
-        let r₁ = reads-tail r in
-        let r₂ = reads-rest (rows d₁ (entered m)) (length-rows d₁ (entered m)) r₁ in
+        (flow d₁ n (suc w) (suc w + size a) refl r₁ (leads-at h₁ (below-refl (behind n x))) (omega arith) (proper-below (below-turn m x) proper₀))
+        h₁ (omega arith)
+        (flow d n _ v (omega arith) r₂ (leads-then m (closure x) z exit) fits (proper-then m (closure x) z proper))
+        proper₀
+    flow (typed-block {a} {x} {z} d₁ top d) m w v e r exit fits proper =
+        let n = entered m in
+        let proper₀ = proper-first m x z proper in
+        reads-apart (rows d₁ n) _ _ (length-rows d₁ n) (reads-tail r) λ r₁ h₁ r₂.
         block-part m x (reads-head r) (omega arith)
-        (flow d₁ (entered m) (suc w) (suc w + size a) refl (reads-first (rows d₁ (entered m)) _ r₁) (leads-at (reads-head r₂) (below-refl (behind (entered m) x))) (omega arith) (proper-entered m x top properₙ))
-        (reads-head r₂) (omega arith)
-        (flow d n _ v (omega arith) (reads-tail r₂) (leads-then m x z exit) fits (proper-then m x z proper))
-        properₙ
+        (flow d₁ n (suc w) (suc w + size a) refl r₁ (leads-at h₁ (below-refl (behind n x))) (omega arith) (proper-entered m x top proper₀))
+        h₁ (omega arith)
+        (flow d (behind m x) _ v (omega arith) r₂ (leads-then m x z exit) fits (proper-then m x z proper))
+        proper₀
