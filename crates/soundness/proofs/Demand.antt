@@ -7,13 +7,14 @@ use Rattle.judge.specs.Acceptance.{Accepted, accept, sound, programRead}
 use Rattle.judge.specs.Judging.{judgeProgram}
 use Rattle.machine.specs.Block.{NobodyInside}
 use Rattle.machine.specs.Run.{run}
+use Rattle.program.proofs.Sound.{sound-file}
 use Rattle.program.specs.Choice.{Answer, fine, refused}
 use Rattle.program.specs.Layout.{Program, programOf, reading}
-use Rattle.program.specs.Sound.{SoundFile}
 use Rattle.program.specs.declared.layout.Layout.{Layout}
 use Rattle.program.specs.declared.layout.Reading.{Reading}
 use Rattle.program.specs.declared.layout.Reading.the-variants.{Sound, Refused}
 use Rattle.soundness.specs.Demand.{Serialized, Demand3}
+use Rattle.soundness.specs.Instance.{Annotated}
 use Rattle.soundness.specs.Order.{SerializedInOrder, Demand3InOrder}
 use Rattle.soundness.proofs.Accepted.{WellNested, sound-nested, judged-annotated}
 use Rattle.soundness.proofs.Serialize.{serialized}
@@ -24,13 +25,23 @@ sound-reading : {C : Type 0} (file : List ℕ) (r : Reading) {p : Program} → p
 sound-reading file (Sound l) e k = k l refl (cc)
 sound-reading file (Refused r) e k = absurd (let z : _≡_ {A = ℕ} 0 1 = cc in omega arith)
 
-module _ (file : List ℕ) (known : (l : Layout) → reading file ≡ Sound l → SoundFile file l) where
-  pub in-order : Demand3InOrder file
-  unfolding Demand3InOrder accept sound
-  in-order a e list threads nobody =
-      bind-fine (programRead file (reading file)) _ e λ p e₁ f₁.
-      bind-fine (judgeProgram p) _ f₁ λ report e₂ f₂.
-      let same : p ≡ a .program = cc in
-      sound-reading file (reading file) e₁ λ l h q.
-      let nested = subst WellNested (q ∙ same) (sound-nested file l (known l h)) in
-      serialized (a .program) (judged-annotated (a .program) nested (ap judgeProgram (sym same) ∙ e₂)) list nobody
+-- every accepted program's threads are annotated
+accepted-annotated : (file : List ℕ) (a : Accepted) → accept file ≡ fine a → (t : ℕ) → Annotated (a .program) t
+unfolding accept sound
+accepted-annotated file a e =
+    bind-fine (programRead file (reading file)) _ e λ p e₁ f₁.
+    bind-fine (judgeProgram p) _ f₁ λ report e₂ f₂.
+    let same : p ≡ a .program = cc in
+    sound-reading file (reading file) e₁ λ l h q.
+    let nested = subst WellNested (q ∙ same) (sound-nested file l (sound-file file l h)) in
+    judged-annotated (a .program) nested (ap judgeProgram (sym same) ∙ e₂)
+
+pub demand3-in-order : (file : List ℕ) → Demand3InOrder file
+unfolding Demand3InOrder
+demand3-in-order file a e list threads nobody = serialized (a .program) (accepted-annotated file a e) list nobody
+
+pub demand3 : (file : List ℕ) → Demand3 file
+unfolding Demand3 Demand3InOrder
+demand3 file a e list threads nobody =
+    let r = demand3-in-order file a e list threads nobody in
+    record { serial = r .serial; uninterrupted = r .uninterrupted; same-state = r .same-state; same-moved = r .same-moved }

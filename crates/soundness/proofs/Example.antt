@@ -24,7 +24,7 @@ use Rattle.machine.specs.State.{fresh, start, codeOf, threadOf}
 use Rattle.machine.specs.Step.{accessOf, waits, valueRead, variablesAfter, locksAfter as machine-locksAfter, registersAfter, branch, placeAfter, threadAfter, instructionOf, moveBy, outcome, step}
 use Rattle.machine.specs.Run.{runFrom, run}
 use Rattle.machine.specs.Block.{covers, coveredFrom, inside, OthersOutside, NobodyInside, UninterruptedFrom, Uninterrupted}
-use Rattle.soundness.specs.Demand.{ThreadsOf}
+use Rattle.soundness.specs.Demand.{ThreadsOf, Serialized}
 use Rattle.soundness.specs.Example.{adder, adders, interleaving, Interrupted, acceptedOf}
 
 -- all definitions open
@@ -82,3 +82,7 @@ adders-interrupted = record
   ; nobody = adders-nobody
   ; interrupted = adders-uninterrupted
   }
+
+-- the list that demand 3 promises is another
+pub adders-serialized : (r : Serialized (adders-interrupted .answer .program) interleaving) → r .serial ≢ interleaving
+adders-serialized r e = adders-interrupted .interrupted (subst (Uninterrupted (adders-interrupted .answer .program)) e (r .uninterrupted))
