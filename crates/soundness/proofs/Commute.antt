@@ -17,6 +17,7 @@ use Rattle.program.specs.Layout.{Program}
 use Rattle.program.specs.declared.instruction.Instruction.{Instruction}
 use Rattle.program.specs.declared.instruction.Instruction.the-variants.{End}
 use Rattle.soundness.specs.Access.{Independent}
+use Rattle.soundness.specs.Instance.{nextInstruction, nextAccess}
 use Rattle.soundness.specs.Naming.{Named, moved, movedNamed, blockOf, moveOf, finishedAfter}
 use Rattle.soundness.proofs.Move.{mover, thread-other}
 
@@ -72,7 +73,7 @@ pub move-other : (p : Program) (g : Named) (t u : ℕ) → u ≢ t → moveOf (m
 unfolding moveOf movedNamed moved
 move-other p g t u n =
     ap₂ (λ (k : ℕ) (th : Thread). record { thread = u; number = k; before = th })
-    (getD-set-other (g .finished) t u _ 0 n) (thread-other (instructionOf p t (g .machine)) t (g .machine) u n)
+    (getD-set-other (g .finished) t u _ 0 n) (thread-other (nextInstruction p g t) t (g .machine) u n)
 
 pub block-other : (p : Program) (g : Named) (t u : ℕ) → u ≢ t → blockOf (movedNamed p t g) u ≡ blockOf g u
 unfolding blockOf movedNamed
@@ -90,7 +91,7 @@ finished-later p g {t} {u} n e =
     (getD-set-other (g .finished) t u _ 0 (Ne·symm n))
 
 module _ (p : Program) (g : Named) {t u : ℕ} (n : t ≢ u)
-    (d : Independent (accessOf (instructionOf p t (g .machine))) (accessOf (instructionOf p u (g .machine)))) where
+    (d : Independent (nextAccess p g t) (nextAccess p g u)) where
   moved-comm : moved p u (moved p t (g .machine)) ≡ moved p t (moved p u (g .machine))
   unfolding moved
   moved-comm =

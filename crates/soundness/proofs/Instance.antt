@@ -20,7 +20,7 @@ use Rattle.program.specs.declared.instruction.Instruction.{Instruction}
 use Rattle.reduction.specs.Moves.{Movers, Unmoved, Swappable, outside, beforeCommit, afterCommit}
 use Rattle.soundness.specs.Access.{Permitted, Independent, Swaps, right-first, left-second, accessMover}
 use Rattle.soundness.specs.Annotation.{Row}
-use Rattle.soundness.specs.Instance.{Annotated, placeOf, rowOf, Invariant, Moving, machineMoves}
+use Rattle.soundness.specs.Instance.{nextInstruction, nextAccess, nextMover, Annotated, placeOf, rowOf, Invariant, Moving, machineMoves}
 use Rattle.soundness.specs.Naming.{Move, Named, blockName, blockOf, moveOf, moved, movedNamed, finishedAfter}
 use Rattle.soundness.specs.Prefix.{statusOf, isInner, Goes}
 use Rattle.soundness.proofs.Access.{access-mover, independent}
@@ -44,31 +44,31 @@ module _ (p : Program) (A : (t : ℕ) → Annotated p t) where
 
   module _ {g : Named} (inv : Invariant p A g) {t u : ℕ} (n : t ≢ u) (e : outcome p t (g .machine) ≡ Moved)
       (f : outcome p u (movedNamed p t g .machine) ≡ Moved)
-      (m : Swaps (atomicityOf p t (instructionOf p t (g .machine))) (atomicityOf p u (instructionOf p u (g .machine)))) where
-    permitted-second : Permitted p u (rowOf p A g u .locks) (accessOf (instructionOf p u (g .machine)))
+      (m : Swaps (nextMover p g t) (nextMover p g u)) where
+    permitted-second : Permitted p u (rowOf p A g u .locks) (nextAccess p g u)
     unfolding movedNamed moved
     permitted-second =
         subst₂ (λ (r : Row) (j : Instruction). Permitted p u (r .locks) (accessOf j)) (row-other p A g t u (Ne·symm n))
-        (instruction-other p (instructionOf p t (g .machine)) (g .machine) (Ne·symm n)) (permitted p A (invariant-moved p A inv t e) u f)
+        (instruction-other p (nextInstruction p g t) (g .machine) (Ne·symm n)) (permitted p A (invariant-moved p A inv t e) u f)
 
-    waits-second : waits (accessOf (instructionOf p u (g .machine))) (locksAfter (accessOf (instructionOf p t (g .machine))) t (g .machine .locks)) ≡ false
+    waits-second : waits (nextAccess p g u) (locksAfter (nextAccess p g t) t (g .machine .locks)) ≡ false
     unfolding movedNamed moved moveBy
     waits-second =
-        ap (λ (j : Instruction). waits (accessOf j) (locksAfter (accessOf (instructionOf p t (g .machine))) t (g .machine .locks)))
-        (sym (instruction-other p (instructionOf p t (g .machine)) (g .machine) (Ne·symm n)))
+        ap (λ (j : Instruction). waits (accessOf j) (locksAfter (nextAccess p g t) t (g .machine .locks)))
+        (sym (instruction-other p (nextInstruction p g t) (g .machine) (Ne·symm n)))
         ∙ moved-waits p u (movedNamed p t g .machine) f
 
-    apart : Independent (accessOf (instructionOf p t (g .machine))) (accessOf (instructionOf p u (g .machine)))
+    apart : Independent (nextAccess p g t) (nextAccess p g u)
     apart =
-        independent p n (inv .owns t) (inv .owns u) (accessOf (instructionOf p t (g .machine))) (accessOf (instructionOf p u (g .machine)))
+        independent p n (inv .owns t) (inv .owns u) (nextAccess p g t) (nextAccess p g u)
         (permitted p A inv t e) permitted-second (takes-below p A inv t e) (moved-waits p t (g .machine) e) waits-second
-        (subst₂ Swaps (access-mover p t (instructionOf p t (g .machine))) (access-mover p u (instructionOf p u (g .machine))) m)
+        (subst₂ Swaps (access-mover p t (nextInstruction p g t)) (access-mover p u (nextInstruction p g u)) m)
 
     swap : Swapped p g t u
     unfolding movedNamed moved
     swap = record
-      { first = sym (outcome-other p (instructionOf p t (g .machine)) (g .machine) (Ne·symm n) (apart .second-waits t (g .machine .locks))) ∙ f
-      ; second = outcome-other p (instructionOf p u (g .machine)) (g .machine) n (apart .first-waits u (g .machine .locks)) ∙ e
+      { first = sym (outcome-other p (nextInstruction p g t) (g .machine) (Ne·symm n) (apart .second-waits t (g .machine .locks))) ∙ f
+      ; second = outcome-other p (nextInstruction p g u) (g .machine) n (apart .first-waits u (g .machine .locks)) ∙ e
       ; same = moved-named-comm p g n apart
       }
 
@@ -77,7 +77,7 @@ module _ (p : Program) (A : (t : ℕ) → Annotated p t) where
     after-first : Moving p A (movedNamed p (x .thread) g) y v
     after-first = subst (λ (k : Named). Moving p A k y v) (X .next) Y
 
-    swappable : Swaps (atomicityOf p (x .thread) (instructionOf p (x .thread) (g .machine))) (atomicityOf p (y .thread) (instructionOf p (y .thread) (g .machine)))
+    swappable : Swaps (nextMover p g (x .thread)) (nextMover p g (y .thread))
         → Swappable (machineMoves p A) g x y v
     swappable m =
         let w = swap (X .invariant) n (X .moved) (after-first .moved) m in
@@ -99,9 +99,9 @@ module _ (p : Program) (A : (t : ℕ) → Annotated p t) where
 
   -- the move's ends
   goes-move : {g h : Named} {x : Move} → Moving p A g x h
-      → Goes (atomicityOf p (x .thread) (instructionOf p (x .thread) (g .machine))) (rowOf p A g (x .thread) .prefix) (rowOf p A h (x .thread) .prefix)
+      → Goes (nextMover p g (x .thread)) (rowOf p A g (x .thread) .prefix) (rowOf p A h (x .thread) .prefix)
   goes-move {g} {x} X =
-      subst (λ (k : Named). Goes (atomicityOf p (x .thread) (instructionOf p (x .thread) (g .machine))) (rowOf p A g (x .thread) .prefix) (rowOf p A k (x .thread) .prefix))
+      subst (λ (k : Named). Goes (nextMover p g (x .thread)) (rowOf p A g (x .thread) .prefix) (rowOf p A k (x .thread) .prefix))
       (sym (X .next)) (goes p A (X .invariant) (x .thread) (X .moved))
 
   -- a thread that is still inside has not finished its block
@@ -130,10 +130,10 @@ module _ (p : Program) (A : (t : ℕ) → Annotated p t) where
       ∙ sym (named-block X)
 
   -- the second move's instruction is the one that its thread stands at before the first
-  same-second : {g h : Named} {x : Move} {t : ℕ} → Moving p A g x h → t ≢ x .thread → instructionOf p t (h .machine) ≡ instructionOf p t (g .machine)
+  same-second : {g h : Named} {x : Move} {t : ℕ} → Moving p A g x h → t ≢ x .thread → instructionOf p t (h .machine) ≡ nextInstruction p g t
   unfolding movedNamed moved
   same-second {g} {x} {t} X n =
-      ap (λ (k : Named). instructionOf p t (k .machine)) (X .next) ∙ instruction-other p (instructionOf p (x .thread) (g .machine)) (g .machine) n
+      ap (λ (k : Named). instructionOf p t (k .machine)) (X .next) ∙ instruction-other p (nextInstruction p g (x .thread)) (g .machine) n
 
   pub machine-movers : Movers (machineMoves p A)
   machine-movers = record

@@ -23,7 +23,7 @@ use Rattle.program.specs.declared.instruction.Instruction.{Instruction}
 use Rattle.program.specs.declared.instruction.Instruction.the-variants.{End}
 use Rattle.soundness.specs.Access.{Permitted, TakesBelow, Owns, setAfter}
 use Rattle.soundness.specs.Annotation.{Row, Follows}
-use Rattle.soundness.specs.Instance.{Annotated, placeOf, rowOf, Invariant}
+use Rattle.soundness.specs.Instance.{nextInstruction, nextAccess, nextMover, Annotated, placeOf, rowOf, Invariant}
 use Rattle.soundness.specs.Naming.{Named, moved, movedNamed}
 use Rattle.soundness.specs.Prefix.{Goes}
 use Rattle.soundness.specs.Typing.{Legal}
@@ -89,7 +89,7 @@ module _ (p : Program) (A : (t : ℕ) → Annotated p t) where
   -- the others stay where they are
   pub place-other : (g : Named) (t u : ℕ) → u ≢ t → placeOf p A (movedNamed p t g) u ≡ placeOf p A g u
   unfolding movedNamed moved
-  place-other g t u n = ap (λ (th : Thread). th .place) (thread-other (instructionOf p t (g .machine)) t (g .machine) u n)
+  place-other g t u n = ap (λ (th : Thread). th .place) (thread-other (nextInstruction p g t) t (g .machine) u n)
 
   pub row-other : (g : Named) (t u : ℕ) → u ≢ t → rowOf p A (movedNamed p t g) u ≡ rowOf p A g u
   row-other g t u n = ap (A u .rowAt) (place-other g t u n)
@@ -107,11 +107,11 @@ module _ (p : Program) (A : (t : ℕ) → Annotated p t) where
     pub in-finished : t < length (g .finished)
     in-finished = omega (arith, inv .finished-count, in-program)
 
-    place-moved : placeOf p A (movedNamed p t g) t ≡ placeAfter (instructionOf p t (g .machine)) (threadOf (g .machine) t .registers) (placeOf p A g t)
+    place-moved : placeOf p A (movedNamed p t g) t ≡ placeAfter (nextInstruction p g t) (threadOf (g .machine) t .registers) (placeOf p A g t)
     unfolding movedNamed moved threadAfter
-    place-moved = ap (λ (th : Thread). th .place) (thread-moved (instructionOf p t (g .machine)) t (g .machine) in-threads)
+    place-moved = ap (λ (th : Thread). th .place) (thread-moved (nextInstruction p g t) t (g .machine) in-threads)
 
-    same-instruction : rowOf p A g t .instruction ≡ instructionOf p t (g .machine)
+    same-instruction : rowOf p A g t .instruction ≡ nextInstruction p g t
     unfolding instructionOf
     same-instruction = A t .same-code (placeOf p A g t) in-code
 
@@ -121,24 +121,24 @@ module _ (p : Program) (A : (t : ℕ) → Annotated p t) where
         let to = ap (λ (j : Instruction). placeAfter j registers (placeOf p A g t)) same-instruction ∙ sym place-moved in
         subst (λ (q : ℕ). Follows p t (rowOf p A g t) (A t .rowAt q) × (q ≤ length (codeOf p t))) to (A t .flows (placeOf p A g t) in-code registers)
 
-    legal : Legal p t (instructionOf p t (g .machine)) (rowOf p A g t .locks) (rowOf p A (movedNamed p t g) t .locks)
+    legal : Legal p t (nextInstruction p g t) (rowOf p A g t .locks) (rowOf p A (movedNamed p t g) t .locks)
     legal = subst (λ (j : Instruction). Legal p t j (rowOf p A g t .locks) (rowOf p A (movedNamed p t g) t .locks)) same-instruction (arrives .0 .legal)
 
     -- what its ends say of the move
-    pub goes : Goes (atomicityOf p t (instructionOf p t (g .machine))) (rowOf p A g t .prefix) (rowOf p A (movedNamed p t g) t .prefix)
+    pub goes : Goes (nextMover p g t) (rowOf p A g t .prefix) (rowOf p A (movedNamed p t g) t .prefix)
     goes = subst (λ (j : Instruction). Goes (atomicityOf p t j) (rowOf p A g t .prefix) (rowOf p A (movedNamed p t g) t .prefix)) same-instruction (arrives .0 .goes)
 
-    pub permitted : Permitted p t (rowOf p A g t .locks) (accessOf (instructionOf p t (g .machine)))
-    permitted = legal-permitted (instructionOf p t (g .machine)) legal
+    pub permitted : Permitted p t (rowOf p A g t .locks) (nextAccess p g t)
+    permitted = legal-permitted (nextInstruction p g t) legal
 
-    pub takes-below : TakesBelow (length (g .machine .locks)) (accessOf (instructionOf p t (g .machine)))
+    pub takes-below : TakesBelow (length (g .machine .locks)) (nextAccess p g t)
     unfolding instructionOf
-    takes-below = subst (λ (n : ℕ). TakesBelow n (accessOf (instructionOf p t (g .machine)))) (sym (inv .lock-count)) (A t .takes-below (placeOf p A g t) in-code)
+    takes-below = subst (λ (n : ℕ). TakesBelow n (nextAccess p g t)) (sym (inv .lock-count)) (A t .takes-below (placeOf p A g t) in-code)
 
-    owns-mine : Owns t (rowOf p A (movedNamed p t g) t .locks) (locksAfter (accessOf (instructionOf p t (g .machine))) t (g .machine .locks))
+    owns-mine : Owns t (rowOf p A (movedNamed p t g) t .locks) (locksAfter (nextAccess p g t) t (g .machine .locks))
     owns-mine =
-        subst (λ (s : LockSet). Owns t s (locksAfter (accessOf (instructionOf p t (g .machine))) t (g .machine .locks))) (legal-set (instructionOf p t (g .machine)) legal)
-        (owns-moved (inv .owns t) (accessOf (instructionOf p t (g .machine))) permitted takes-below)
+        subst (λ (s : LockSet). Owns t s (locksAfter (nextAccess p g t) t (g .machine .locks))) (legal-set (nextInstruction p g t) legal)
+        (owns-moved (inv .owns t) (nextAccess p g t) permitted takes-below)
 
     -- the invariant holds afterwards
     pub invariant-moved : Invariant p A (movedNamed p t g)
@@ -147,11 +147,11 @@ module _ (p : Program) (A : (t : ℕ) → Annotated p t) where
       { owns = λ u. dite (ℕ-discrete u t)
           (λ (same : u ≡ t). subst (λ (v : ℕ). Owns v (rowOf p A (movedNamed p t g) v .locks) (movedNamed p t g .machine .locks)) (sym same) owns-mine)
           (λ (n : u ≢ t). subst (λ (r : Row). Owns u (r .locks) (movedNamed p t g .machine .locks)) (sym (row-other g t u n))
-            (owns-other (inv .owns t) (Ne·symm n) (inv .owns u) (accessOf (instructionOf p t (g .machine))) permitted (moved-waits p t (g .machine) e)))
+            (owns-other (inv .owns t) (Ne·symm n) (inv .owns u) (nextAccess p g t) permitted (moved-waits p t (g .machine) e)))
       ; places = λ u. dite (ℕ-discrete u t)
           (λ (same : u ≡ t). subst (λ (v : ℕ). placeOf p A (movedNamed p t g) v ≤ length (codeOf p v)) (sym same) (arrives .1))
           (λ (n : u ≢ t). omega (arith, place-other g t u n, inv .places u))
-      ; lock-count = length-locks (accessOf (instructionOf p t (g .machine))) t (g .machine .locks) ∙ inv .lock-count
+      ; lock-count = length-locks (nextAccess p g t) t (g .machine .locks) ∙ inv .lock-count
       ; thread-count = length-set (g .machine .threads) t _ ∙ inv .thread-count
       ; finished-count = length-set (g .finished) t _ ∙ inv .finished-count
       }

@@ -4,12 +4,15 @@ use Prim.Native.Nat.{ℕ, _≤_, _<_}
 use mathlib.Core.Path.{_≡_}
 use mathlib.Core.List.{List}
 use lib.ListN.{length, getD}
+use Rattle.atomicity.specs.declared.Atomicity.{Atomicity}
+use Rattle.judge.specs.Discipline.{atomicityOf}
 use Rattle.judge.specs.LockSet.{empty}
 use Rattle.machine.specs.Block.{coveredFrom}
 use Rattle.machine.specs.State.{codeOf, threadOf}
-use Rattle.machine.specs.Step.{accessOf, outcome}
+use Rattle.machine.specs.Step.{Access, accessOf, instructionOf, outcome}
 use Rattle.machine.specs.declared.thread.Outcome.the-variants.{Moved}
 use Rattle.program.specs.Layout.{Program}
+use Rattle.program.specs.declared.instruction.Instruction.{Instruction}
 use Rattle.program.specs.declared.instruction.Instruction.the-variants.{End}
 use Rattle.reduction.specs.Moves.{Moves}
 use Rattle.soundness.specs.Access.{Owns, TakesBelow}
@@ -25,6 +28,16 @@ pub record Annotated (p : Program) (t : ℕ) : Type 0 where
   pub flows : (q : ℕ) → q < length (codeOf p t) → Flows p t rowAt (length (codeOf p t)) q
   pub covered : (q : ℕ) → q ≤ length (codeOf p t) → coveredFrom 0 (codeOf p t) q ≡ isInner (rowAt q .prefix)
   pub takes-below : (q : ℕ) → q < length (codeOf p t) → TakesBelow (p .locks) (accessOf (getD (codeOf p t) q End))
+
+-- the instruction that thread t stands at, its shared access and its atomicity
+abbrev pub nextInstruction : Program → Named → ℕ → Instruction
+nextInstruction p g t = instructionOf p t (g .machine)
+
+abbrev pub nextAccess : Program → Named → ℕ → Access
+nextAccess p g t = accessOf (nextInstruction p g t)
+
+abbrev pub nextMover : Program → Named → ℕ → Atomicity
+nextMover p g t = atomicityOf p t (nextInstruction p g t)
 
 module _ (p : Program) (A : (t : ℕ) → Annotated p t) where
   -- the place of thread t, and its row
