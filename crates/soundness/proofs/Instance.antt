@@ -23,8 +23,9 @@ use Rattle.soundness.specs.Annotation.{Row}
 use Rattle.soundness.specs.Instance.{nextInstruction, nextAccess, nextMover, Annotated, placeOf, rowOf, Invariant, Moving, machineMoves}
 use Rattle.soundness.specs.Naming.{Move, Named, blockName, blockOf, moveOf, moved, movedNamed, finishedAfter}
 use Rattle.soundness.specs.Prefix.{statusOf, isInner, Goes}
-use Rattle.soundness.proofs.Access.{access-mover, independent}
+use Rattle.soundness.proofs.Access.{access-mover}
 use Rattle.soundness.proofs.Commute.{instruction-other, outcome-other, block-other, move-other, moved-named-comm}
+use Rattle.soundness.proofs.Independent.{independent}
 use Rattle.soundness.proofs.Move.{moved-waits, row-other, in-finished, goes, permitted, takes-below, invariant-moved}
 use Rattle.soundness.proofs.Prefix.{goes-right, goes-left, goes-committed, not-outside-inner}
 

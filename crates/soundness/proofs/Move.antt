@@ -27,7 +27,8 @@ use Rattle.soundness.specs.Instance.{nextInstruction, nextAccess, nextMo
 use Rattle.soundness.specs.Naming.{Named, moved, movedNamed}
 use Rattle.soundness.specs.Prefix.{Goes}
 use Rattle.soundness.specs.Typing.{Legal}
-use Rattle.soundness.proofs.Access.{legal-permitted, legal-set, owns-moved, owns-other}
+use Rattle.soundness.proofs.Access.{legal-permitted, legal-set}
+use Rattle.soundness.proofs.Owns.{owns-moved, owns-other}
 
 -- ---- what "moved" says
 

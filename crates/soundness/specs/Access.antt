@@ -51,6 +51,15 @@ TakesBelow n (gives k) = Unit {0}
 pub record Owns (t : ℕ) (s : LockSet) (ks : List ℕ) : Type 0 where
   pub owner : (k : ℕ) → holds s k ≡ true → getD ks k 0 ≡ t + 1
 
+-- it touches no lock, or no variable
+pub record NoLock (x : Access) : Type 0 where
+  pub kept : (t : ℕ) (ks : List ℕ) → locksAfter x t ks ≡ ks
+  pub free : (ks : List ℕ) → waits x ks ≡ false
+
+pub record NoVariable (x : Access) : Type 0 where
+  pub kept : (r vs : List ℕ) → variablesAfter x r vs ≡ vs
+  pub blind : (vs : List ℕ) → valueRead x vs ≡ 0
+
 -- neither sees the other, and their order does not matter
 pub record Independent (x y : Access) : Type 0 where
   pub variables : (r q vs : List ℕ) → variablesAfter y q (variablesAfter x r vs) ≡ variablesAfter x r (variablesAfter y q vs)
