@@ -4,21 +4,24 @@ use native.Mathlib.Decide.{decLt}
 use native.Mathlib.Nat.{add-zero, suc-add, add-suc, zero-add}
 use native.Mathlib.Omega.{arith}
 use mathlib.Core.Path.{_≡_, refl, sym, ap, _∙_, subst}
-use mathlib.Core.Logic.{dite}
+use mathlib.Core.Logic.{_≢_, dite}
 use mathlib.Core.List.{List, [], _∷_, _++_, map, map-append}
 use lib.ListN.{length, getD, length-append}
 use Rattle.atomicity.specs.Atomicity.{join, closure}
 use Rattle.atomicity.specs.declared.Atomicity.{Atomicity}
+use Rattle.atomicity.specs.declared.Atomicity.the-variants.{Top}
 use Rattle.judge.specs.Discipline.{atomicityOf}
 use Rattle.judge.specs.declared.lock_set.LockSet.{LockSet}
 use Rattle.program.specs.Code.{Code, size, flat}
+use Rattle.program.specs.Instruction.{formOf}
 use Rattle.program.specs.Layout.{Program}
+use Rattle.program.specs.declared.instruction.Form.the-variants.{Plain}
 use Rattle.program.specs.declared.instruction.Instruction.{Instruction}
 use Rattle.program.specs.declared.instruction.Instruction.the-variants.{If, Else, While, Again, Atomic, End}
 use Rattle.reduction.specs.Sequence.{All, all-nil, all-cons}
 use Rattle.soundness.specs.Annotation.{Row, row, rows, Reads, reads-nil, reads-cons, Span}
 use Rattle.soundness.specs.Prefix.{Prefix, behind, entered}
-use Rattle.soundness.specs.Typing.{Typed, typed-done, typed-plain, typed-choice, typed-loop, typed-block}
+use Rattle.soundness.specs.Typing.{Legal, Typed, typed-done, typed-plain, typed-choice, typed-loop, typed-block}
 
 -- ---- spans
 
@@ -35,10 +38,10 @@ module _ (P : ℕ → Type 0) where
 -- ---- reading a list place by place
 
 module _ {A : Type 0} {h : ℕ → A} where
-  pub reads-head : {w : ℕ} {x : A} {l : List A} → Reads h w (x ∷ l) → h w ≡ x
+  reads-head : {w : ℕ} {x : A} {l : List A} → Reads h w (x ∷ l) → h w ≡ x
   reads-head (reads-cons e r) = e
 
-  pub reads-tail : {w : ℕ} {x : A} {l : List A} → Reads h w (x ∷ l) → Reads h (suc w) l
+  reads-tail : {w : ℕ} {x : A} {l : List A} → Reads h w (x ∷ l) → Reads h (suc w) l
   reads-tail (reads-cons e r) = r
 
   reads-before : {w : ℕ} (l k : List A) → Reads h w (l ++ k) → Reads h w l
@@ -50,7 +53,7 @@ module _ {A : Type 0} {h : ℕ → A} where
   reads-behind {w} (x ∷ l) {k} (reads-cons e r) = subst (λ (v : ℕ). Reads h v k) (omega arith) (reads-behind l r)
 
   -- n elements, one more, and the rest
-  pub reads-apart : {C : Type 0} {w : ℕ} (l : List A) (x : A) (k : List A) {n : ℕ} → length l ≡ n → Reads h w (l ++ x ∷ k)
+  reads-apart : {C : Type 0} {w : ℕ} (l : List A) (x : A) (k : List A) {n : ℕ} → length l ≡ n → Reads h w (l ++ x ∷ k)
       → (Reads h w l → h (w + n) ≡ x → Reads h (suc (w + n)) k → C) → C
   reads-apart {w} l x k e r go =
       let r′ = subst (λ (n : ℕ). Reads h (w + n) (x ∷ k)) e (reads-behind l r) in
@@ -105,3 +108,46 @@ module _ {p : Program} {t : ℕ} where
   rows-flat (typed-choice {x} {y} d₁ d₂ d) m = simp (map-append instructionAt, rows-flat d₁ m, rows-flat d₂ m, rows-flat d (behind m (join x y)))
   rows-flat (typed-loop {x} d₁ d) m = simp (map-append instructionAt, rows-flat d₁ (behind m (closure x)), rows-flat d (behind m (closure x)))
   rows-flat (typed-block {x} d₁ n d) m = simp (map-append instructionAt, rows-flat d₁ (entered m), rows-flat d (behind m x))
+
+  -- ---- the rows of each construct, read place by place
+
+  module _ {h : ℕ → Row} {C : Type 0} {w : ℕ} (m : Prefix) where
+    pub reads-plain : {i : Instruction} {c : Code} {s s′ s″ : LockSet} {a : Atomicity} (f : formOf i ≡ Plain) (l : Legal p t i s s′) (d : Typed p t s′ c s″ a)
+        → Reads h w (rows (typed-plain f l d) m)
+        → (h w ≡ row i s m → Reads h (suc w) (rows d (behind m (atomicityOf p t i))) → C) → C
+    unfolding rows
+    reads-plain f l d (reads-cons h₀ r) go = go h₀ r
+
+    pub reads-choice : {g : ℕ} {a b c : Code} {s s′ s″ : LockSet} {x y z : Atomicity} (d₁ : Typed p t s a s′ x) (d₂ : Typed p t s b s′ y) (d : Typed p t s′ c s″ z)
+        → Reads h w (rows (typed-choice {r = g} d₁ d₂ d) m)
+        → (h w ≡ row (If g (size a + 1)) s m → Reads h (suc w) (rows d₁ m)
+          → h (suc w + size a) ≡ row (Else (size b + 1)) s′ (behind m x) → Reads h (suc (suc w + size a)) (rows d₂ m)
+          → h (suc (suc w + size a) + size b) ≡ row End s′ (behind m (join x y))
+          → Reads h (suc (suc (suc w + size a) + size b)) (rows d (behind m (join x y))) → C)
+        → C
+    unfolding rows
+    reads-choice d₁ d₂ d (reads-cons h₀ r) go =
+        reads-apart (rows d₁ m) _ _ (length-rows d₁ m) r λ r₁ h₁ r′.
+        reads-apart (rows d₂ m) _ _ (length-rows d₂ m) r′ λ r₂ h₂ r₃.
+        go h₀ r₁ h₁ r₂ h₂ r₃
+
+    pub reads-loop : {g : ℕ} {a c : Code} {s s″ : LockSet} {x z : Atomicity} (d₁ : Typed p t s a s x) (d : Typed p t s c s″ z)
+        → Reads h w (rows (typed-loop {r = g} d₁ d) m)
+        → (h w ≡ row (While g (size a + 1)) s (behind m (closure x)) → Reads h (suc w) (rows d₁ (behind m (closure x)))
+          → h (suc w + size a) ≡ row (Again (size a + 1)) s (behind (behind m (closure x)) x)
+          → Reads h (suc (suc w + size a)) (rows d (behind m (closure x))) → C)
+        → C
+    unfolding rows
+    reads-loop {x} d₁ d (reads-cons h₀ r) go =
+        reads-apart (rows d₁ (behind m (closure x))) _ _ (length-rows d₁ (behind m (closure x))) r λ r₁ h₁ r₂.
+        go h₀ r₁ h₁ r₂
+
+    pub reads-block : {a c : Code} {s s′ s″ : LockSet} {x z : Atomicity} (d₁ : Typed p t s a s′ x) (n : x ≢ Top) (d : Typed p t s′ c s″ z)
+        → Reads h w (rows (typed-block d₁ n d) m)
+        → (h w ≡ row (Atomic (size a + 1)) s m → Reads h (suc w) (rows d₁ (entered m))
+          → h (suc w + size a) ≡ row End s′ (behind (entered m) x) → Reads h (suc (suc w + size a)) (rows d (behind m x)) → C)
+        → C
+    unfolding rows
+    reads-block d₁ n d (reads-cons h₀ r) go =
+        reads-apart (rows d₁ (entered m)) _ _ (length-rows d₁ (entered m)) r λ r₁ h₁ r₂.
+        go h₀ r₁ h₁ r₂

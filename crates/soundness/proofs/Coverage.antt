@@ -27,7 +27,7 @@ use Rattle.reduction.specs.Sequence.{All, all-nil, all-cons}
 use Rattle.soundness.specs.Annotation.{Row, row, rows, Reads, Span}
 use Rattle.soundness.specs.Prefix.{Prefix, outer, inner, isInner, behind, entered}
 use Rattle.soundness.specs.Typing.{Typed, typed-done, typed-plain, typed-choice, typed-loop, typed-block}
-use Rattle.soundness.proofs.Annotation.{reads-head, reads-tail, reads-apart, reads-all, all-append, span-empty, span-one, span-join, length-rows}
+use Rattle.soundness.proofs.Annotation.{reads-plain, reads-choice, reads-loop, reads-block, reads-all, all-append, span-empty, span-one, span-join, length-rows}
 
 -- ---- covered by some instruction of a list
 
@@ -167,19 +167,19 @@ module _ {p : Program} {t : ℕ} where
   -- what the code from place w on covers up to place v, its rows say
   pub coverage : (h : ℕ → Row) {s s′ : LockSet} {c : Code} {a : Atomicity} (d : Typed p t s c s′ a) (w v : ℕ) → w + size c ≡ v
       → Reads h w (rows d outer) → Span (Agrees h c w) w v
-  unfolding rows size isInner
+  unfolding size isInner
   coverage h typed-done w v e r = λ q k l. absurd (omega arith)
   coverage h (typed-plain {i} {c} f l d) w v e r =
       let P = Agrees h (plain i c) w in
-      span-join P (span-one P w (agrees-start h (plain i c) (reads-head r)))
-      (λ q k l. covered-plain i c w q f ∙ coverage h d (suc w) v (omega arith) (reads-tail r) q k l)
+      reads-plain outer f l d r λ h₀ r₁.
+      span-join P (span-one P w (agrees-start h (plain i c) h₀))
+      (λ q k l. covered-plain i c w q f ∙ coverage h d (suc w) v (omega arith) r₁ q k l)
   coverage h (typed-choice {r = reg} {a} {b} {c} d₁ d₂ d) w v e r =
       let P = Agrees h (choice reg a b c) w in
       let w₁ = suc w + size a in
       let w₂ = suc w₁ + size b in
-      reads-apart (rows d₁ outer) _ _ (length-rows d₁ outer) (reads-tail r) λ r₁ h₁ r′.
-      reads-apart (rows d₂ outer) _ _ (length-rows d₂ outer) r′ λ r₂ h₂ r₃.
-      span-join P (span-one P w (agrees-start h (choice reg a b c) (reads-head r)))
+      reads-choice outer d₁ d₂ d r λ h₀ r₁ h₁ r₂ h₂ r₃.
+      span-join P (span-one P w (agrees-start h (choice reg a b c) h₀))
       (span-join P
       (λ q k l. covered-choice reg a b c w q
         ∙ or-left _ _ (or-false _ _ (covered-before (flat b) (suc w₁) q (omega arith)) (covered-before (flat c) (suc w₂) q (omega arith)))
@@ -204,8 +204,8 @@ module _ {p : Program} {t : ℕ} where
   coverage h (typed-loop {r = reg} {a} {c} d₁ d) w v e r =
       let P = Agrees h (loop reg a c) w in
       let w₁ = suc w + size a in
-      reads-apart (rows d₁ outer) _ _ (length-rows d₁ outer) (reads-tail r) λ r₁ h₁ r₂.
-      span-join P (span-one P w (agrees-start h (loop reg a c) (reads-head r)))
+      reads-loop outer d₁ d r λ h₀ r₁ h₁ r₂.
+      span-join P (span-one P w (agrees-start h (loop reg a c) h₀))
       (span-join P
       (λ q k l. covered-loop reg a c w q
         ∙ or-left _ _ (covered-before (flat c) (suc w₁) q (omega arith))
@@ -220,10 +220,10 @@ module _ {p : Program} {t : ℕ} where
       let P = Agrees h (block a c) w in
       let Q : ℕ → Type 0 = λ q. isInner (h q .prefix) ≡ true in
       let w₁ = suc w + size a in
-      reads-apart (rows d₁ (inner Both)) _ _ (length-rows d₁ (inner Both)) (reads-tail r) λ r₁ h₁ r₂.
+      reads-block outer d₁ n d r λ h₀ r₁ h₁ r₂.
       let body : Span Q (suc w) w₁ = subst (λ (n : ℕ). Span Q (suc w) (suc w + n)) (length-rows d₁ (inner Both)) (reads-all (λ (r : Row). isInner (r .prefix) ≡ true) r₁ (all-inner d₁ Both)) in
       let end : Q w₁ = ap (λ (r : Row). isInner (r .prefix)) h₁ in
-      span-join P (span-one P w (agrees-start h (block a c) (reads-head r)))
+      span-join P (span-one P w (agrees-start h (block a c) h₀))
       (span-join P
       (λ q k l. covered-block a c w q ∙ or-true _ _ (covers-inside w (size a + 1) q k (omega arith)) ∙ sym (span-join Q body (span-one Q w₁ end) q k l))
       (λ q k l. covered-block a c w q

@@ -23,7 +23,7 @@ use Rattle.program.specs.declared.instruction.Instruction.the-variants.{Set, Co
 use Rattle.soundness.specs.Annotation.{Row, row, rows, Reads, Span, Follows, Leads, FlowsFrom, Flows, Part}
 use Rattle.soundness.specs.Prefix.{Prefix, outer, inner, behind, entered, Below, Proper, proper-outer, proper-inner, Goes}
 use Rattle.soundness.specs.Typing.{Legal, Typed, typed-done, typed-plain, typed-choice, typed-loop, typed-block}
-use Rattle.soundness.proofs.Annotation.{reads-head, reads-tail, reads-apart, span-empty, span-one, span-join, length-rows}
+use Rattle.soundness.proofs.Annotation.{reads-plain, reads-choice, reads-loop, reads-block, span-empty, span-one, span-join}
 use Rattle.soundness.proofs.Prefix.{behind-both, behind-behind, below-refl, below-behind, below-first, below-second, below-turn, proper-below, goes-behind, goes-in, goes-out, proper-entered}
 
 -- a plain instruction goes to the next place
@@ -182,42 +182,39 @@ module _ (p : Program) (t : ℕ) where
     -- typed code that is read from place w to before v, and may go on at v
     pub flow : {s s′ : LockSet} {c : Code} {a : Atomicity} (d : Typed p t s c s′ a) (m : Prefix) (w v : ℕ) → w + size c ≡ v
         → Reads h w (rows d m) → Leads s′ (behind m a) (h v) → v ≤ last → Proper (behind m a) → Part p t h last s m w v
-    unfolding rows size
+    unfolding size
     flow {s} typed-done m w v e r exit fits proper =
         let here : v ≡ w = omega arith in
         subst (Part p t h last s m w) (sym here) (done-part (subst (λ (q : ℕ). Leads s (behind m Both) (h q)) here exit))
     flow (typed-plain {i} {a} f l d) m w v e r exit fits proper =
         let x = atomicityOf p t i in
-        plain-part f l (reads-head r) (proper-first m x a proper) (omega arith)
-        (flow d (behind m x) (suc w) v (omega arith) (reads-tail r) (leads-then m x a exit) fits (proper-then m x a proper))
+        reads-plain m f l d r λ h₀ r₁.
+        plain-part f l h₀ (proper-first m x a proper) (omega arith)
+        (flow d (behind m x) (suc w) v (omega arith) r₁ (leads-then m x a exit) fits (proper-then m x a proper))
     flow (typed-choice {a} {b} {x} {y} {z} d₁ d₂ d) m w v e r exit fits proper =
-        let n = behind m (join x y) in
         let proper₀ = proper-first m (join x y) z proper in
-        reads-apart (rows d₁ m) _ _ (length-rows d₁ m) (reads-tail r) λ r₁ h₁ r′.
-        reads-apart (rows d₂ m) _ _ (length-rows d₂ m) r′ λ r₂ h₂ r₃.
-        choice-part x y (reads-head r) (omega arith)
-        (flow d₁ m (suc w) (suc w + size a) refl r₁ (leads-at h₁ (below-refl (behind m x))) (omega arith) (proper-below (below-first m x y) proper₀))
+        reads-choice m d₁ d₂ d r λ h₀ r₁ h₁ r₂ h₂ r₃.
+        choice-part x y h₀ (omega arith)
+        (flow d₁ m _ _ refl r₁ (leads-at h₁ (below-refl (behind m x))) (omega arith) (proper-below (below-first m x y) proper₀))
         h₁ (omega arith)
-        (flow d₂ m (suc (suc w + size a)) (suc (suc w + size a) + size b) refl r₂ (leads-at h₂ (below-second m x y)) (omega arith)
-          (proper-below (below-second m x y) proper₀))
+        (flow d₂ m _ _ refl r₂ (leads-at h₂ (below-second m x y)) (omega arith) (proper-below (below-second m x y) proper₀))
         h₂ (omega arith)
-        (flow d n _ v (omega arith) r₃ (leads-then m (join x y) z exit) fits (proper-then m (join x y) z proper))
+        (flow d (behind m (join x y)) _ v (omega arith) r₃ (leads-then m (join x y) z exit) fits (proper-then m (join x y) z proper))
         proper₀
     flow (typed-loop {a} {x} {z} d₁ d) m w v e r exit fits proper =
         let n = behind m (closure x) in
         let proper₀ = proper-first m (closure x) z proper in
-        reads-apart (rows d₁ n) _ _ (length-rows d₁ n) (reads-tail r) λ r₁ h₁ r₂.
-        loop-part m x (reads-head r) (omega arith)
-        (flow d₁ n (suc w) (suc w + size a) refl r₁ (leads-at h₁ (below-refl (behind n x))) (omega arith) (proper-below (below-turn m x) proper₀))
+        reads-loop m d₁ d r λ h₀ r₁ h₁ r₂.
+        loop-part m x h₀ (omega arith)
+        (flow d₁ n _ _ refl r₁ (leads-at h₁ (below-refl (behind n x))) (omega arith) (proper-below (below-turn m x) proper₀))
         h₁ (omega arith)
         (flow d n _ v (omega arith) r₂ (leads-then m (closure x) z exit) fits (proper-then m (closure x) z proper))
         proper₀
     flow (typed-block {a} {x} {z} d₁ top d) m w v e r exit fits proper =
-        let n = entered m in
         let proper₀ = proper-first m x z proper in
-        reads-apart (rows d₁ n) _ _ (length-rows d₁ n) (reads-tail r) λ r₁ h₁ r₂.
-        block-part m x (reads-head r) (omega arith)
-        (flow d₁ n (suc w) (suc w + size a) refl r₁ (leads-at h₁ (below-refl (behind n x))) (omega arith) (proper-entered m x top proper₀))
+        reads-block m d₁ top d r λ h₀ r₁ h₁ r₂.
+        block-part m x h₀ (omega arith)
+        (flow d₁ (entered m) _ _ refl r₁ (leads-at h₁ (below-refl (behind (entered m) x))) (omega arith) (proper-entered m x top proper₀))
         h₁ (omega arith)
         (flow d (behind m x) _ v (omega arith) r₂ (leads-then m x z exit) fits (proper-then m x z proper))
         proper₀
