@@ -33,12 +33,9 @@ use Rattle.program.specs.declared.layout.Reading.the-variants.{Sound, Refused}
 use Rattle.soundness.specs.Access.{TakesBelow}
 use Rattle.soundness.specs.Instance.{Annotated}
 use Rattle.soundness.specs.Typing.{Typed, typed-done}
+use Rattle.soundness.specs.WellNested.{noSection, TakesGood, WellNested, Derived}
 use Rattle.soundness.proofs.Annotated.{annotated}
 use Rattle.soundness.proofs.Typing.{bind-fine, judge-typed}
-
--- no code
-abbrev noSection : CodeSection
-noSection = record { start = 0; code = [] }
 
 -- ---- from the file: nesting, and the locks taken
 
@@ -69,10 +66,6 @@ takes-good k v (Again n) h = tt
 takes-good k v (Atomic n) h = tt
 takes-good k v End h = tt
 
--- each instruction takes a lock that there is
-abbrev TakesGood : ℕ → List Instruction → Type 0
-TakesGood locks is = (q : ℕ) → TakesBelow locks (accessOf (getD is q End))
-
 takes-at : (locks variables : ℕ) (s : List ℕ) (n at : ℕ) → TakesGood locks (instructionsAt locks variables s n at)
 takes-at locks variables s n at q = dite (decLt q n)
     (λ (h : q < n).
@@ -82,11 +75,6 @@ takes-at locks variables s n at q = dite (decLt q n)
       let out : length (instructionsAt locks variables s n at) ≤ q = omega (arith, length-instructions locks variables s n at) in
       subst (λ (i : Instruction). TakesBelow locks (accessOf i)) (sym (List·getD-eq-default (instructionsAt locks variables s n at) End out))
       (takes-good locks variables End tt))
-
--- what a program of a sound file is
-pub record WellNested (p : Program) : Type 0 where
-  pub writes : (t : ℕ) → Writes (codeOf p t) (structured (codeOf p t))
-  pub takes : (t : ℕ) → TakesGood (p .locks) (codeOf p t)
 
 writes-nothing : Writes [] (structured [])
 unfolding firstBroken atCodeEnd
@@ -104,10 +92,6 @@ sound-nested s l h = record
   }
 
 -- ---- from judging: derivations
-
--- thread t's code has some derivation
-abbrev pub Derived : Program → ℕ → List Instruction → Type 0
-Derived p t is = (s : LockSet) × (a : Atomicity) × Typed p t empty (structured is) s a
 
 derived-nothing : (p : Program) (t : ℕ) → Derived p t []
 unfolding structured structure

@@ -16,7 +16,8 @@ use Rattle.program.specs.declared.layout.Reading.the-variants.{Sound, Refused}
 use Rattle.soundness.specs.Demand.{Serialized, Demand3}
 use Rattle.soundness.specs.Instance.{Annotated}
 use Rattle.soundness.specs.Order.{SerializedInOrder, Demand3InOrder}
-use Rattle.soundness.proofs.Accepted.{WellNested, sound-nested, judged-annotated}
+use Rattle.soundness.specs.WellNested.{WellNested}
+use Rattle.soundness.proofs.Accepted.{sound-nested, judged-annotated}
 use Rattle.soundness.proofs.Serialize.{serialized}
 use Rattle.soundness.proofs.Typing.{bind-fine}
 

@@ -20,7 +20,7 @@ use Rattle.program.specs.declared.instruction.Instruction.{Instruction}
 use Rattle.reduction.specs.Moves.{Movers, Unmoved, Swappable, outside, beforeCommit, afterCommit}
 use Rattle.soundness.specs.Access.{Permitted, Independent, Swaps, right-first, left-second, accessMover}
 use Rattle.soundness.specs.Annotation.{Row}
-use Rattle.soundness.specs.Instance.{nextInstruction, nextAccess, nextMover, Annotated, placeOf, rowOf, Invariant, Moving, machineMoves}
+use Rattle.soundness.specs.Instance.{nextInstruction, nextAccess, nextMover, Swapped, Annotated, placeOf, rowOf, Invariant, Moving, machineMoves}
 use Rattle.soundness.specs.Naming.{Move, Named, blockName, blockOf, moveOf, moved, movedNamed, finishedAfter}
 use Rattle.soundness.specs.Prefix.{statusOf, isInner, Goes}
 use Rattle.soundness.proofs.Access.{access-mover}
@@ -28,12 +28,6 @@ use Rattle.soundness.proofs.Commute.{instruction-other, outcome-other, 
 use Rattle.soundness.proofs.Independent.{independent}
 use Rattle.soundness.proofs.Move.{moved-waits, row-other, in-finished, goes, permitted, takes-below, invariant-moved}
 use Rattle.soundness.proofs.Prefix.{goes-right, goes-left, goes-committed, not-outside-inner}
-
--- two moves done in the other order
-record Swapped (p : Program) (g : Named) (t u : ℕ) : Type 0 where
-  first : outcome p u (g .machine) ≡ Moved
-  second : outcome p t (movedNamed p u g .machine) ≡ Moved
-  same : movedNamed p u (movedNamed p t g) ≡ movedNamed p t (movedNamed p u g)
 
 module _ (p : Program) (A : (t : ℕ) → Annotated p t) where
   -- standing inside, as the machine sees it and as the row does

@@ -29,6 +29,12 @@ pub record Annotated (p : Program) (t : ℕ) : Type 0 where
   pub covered : (q : ℕ) → q ≤ length (codeOf p t) → coveredFrom 0 (codeOf p t) q ≡ isInner (rowAt q .prefix)
   pub takes-below : (q : ℕ) → q < length (codeOf p t) → TakesBelow (p .locks) (accessOf (getD (codeOf p t) q End))
 
+-- the moves of t and then of u, in the other order
+pub record Swapped (p : Program) (g : Named) (t u : ℕ) : Type 0 where
+  pub first : outcome p u (g .machine) ≡ Moved
+  pub second : outcome p t (movedNamed p u g .machine) ≡ Moved
+  pub same : movedNamed p u (movedNamed p t g) ≡ movedNamed p t (movedNamed p u g)
+
 -- the instruction that thread t stands at, its shared access and its atomicity
 abbrev pub nextInstruction : Program → Named → ℕ → Instruction
 nextInstruction p g t = instructionOf p t (g .machine)
