@@ -97,8 +97,8 @@ derived-nothing : (p : Program) (t : ℕ) → Derived p t []
 unfolding structured structure
 derived-nothing p t = (_, _, typed-done)
 
-derived-thread : (p : Program) (t : ℕ) (section : CodeSection) {r : List ℕ} → WellFormed (structured (section .code)) → judgeThread p t section ≡ fine r
-    → Derived p t (section .code)
+derived-thread : (p : Program) (t : ℕ) (section : CodeSection) {r : List ℕ} → WellFormed (structured (section .code))
+    → judgeThread p t section ≡ fine r → Derived p t (section .code)
 unfolding judgeThread
 derived-thread p t section w e =
     bind-fine (judge p t (section .start) empty (structured (section .code))) _ e λ r f g.

@@ -53,7 +53,8 @@ module _ (p : Program) (t : ℕ) {c : Code} {s : LockSet} {a : Atomicity} (d : T
       (λ (l : q < size c). coverage rowAt d 0 (size c) (zero-add (size c)) (reads-list past (rows d outer)) q (omega arith) l)
       (λ (n : ¬ (q < size c)).
         let here : size c ≡ q = omega arith in
-        covered-past d 0 q (omega arith) ∙ sym (ap (λ (k : ℕ). isInner (rowAt k .prefix)) (sym here) ∙ ap (λ (r : Row). isInner (r .prefix)) row-past))
+        covered-past d 0 q (omega arith)
+        ∙ sym (ap (λ (k : ℕ). isInner (rowAt k .prefix)) (sym here) ∙ ap (λ (r : Row). isInner (r .prefix)) row-past))
 
   pub annotated : flat c ≡ codeOf p t → ((q : ℕ) → TakesBelow (p .locks) (accessOf (getD (codeOf p t) q End))) → Annotated p t
   annotated e b = record

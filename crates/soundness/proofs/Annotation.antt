@@ -72,11 +72,13 @@ reads-list d (x ∷ l) =
     (reads-shift {h = λ (q : ℕ). getD l q d} {k = λ (q : ℕ). getD (x ∷ l) q d} {w = 0} 1 (λ q. rw (suc-add 0 q, zero-add q)) (reads-list d l))
 
 -- what holds of each element holds from place to place
-pub reads-all : {A : Type 0} {h : ℕ → A} (P : A → Type 0) {w : ℕ} {l : List A} → Reads h w l → All P l → Span (λ (q : ℕ). P (h q)) w (w + length l)
+pub reads-all : {A : Type 0} {h : ℕ → A} (P : A → Type 0) {w : ℕ} {l : List A} → Reads h w l → All P l
+    → Span (λ (q : ℕ). P (h q)) w (w + length l)
 reads-all {h} P {w} reads-nil all-nil = λ q b k. absurd (omega arith)
 reads-all {h} P {w} (reads-cons {l} e r) (all-cons x a) =
+    let Q : ℕ → Type 0 = λ q. P (h q) in
     let next : suc w + length l ≡ w + suc (length l) = omega arith in
-    span-join (λ (q : ℕ). P (h q)) (span-one (λ (q : ℕ). P (h q)) w (subst P (sym e) x)) (subst (Span (λ (q : ℕ). P (h q)) (suc w)) next (reads-all P r a))
+    span-join Q (span-one Q w (subst P (sym e) x)) (subst (Span Q (suc w)) next (reads-all P r a))
 
 pub all-append : {A : Type 0} {P : A → Type 0} {l k : List A} → All P l → All P k → All P (l ++ k)
 all-append all-nil b = b
@@ -112,13 +114,15 @@ module _ {p : Program} {t : ℕ} where
   -- ---- the rows of each construct, read place by place
 
   module _ {h : ℕ → Row} {C : Type 0} {w : ℕ} (m : Prefix) where
-    pub reads-plain : {i : Instruction} {c : Code} {s s′ s″ : LockSet} {a : Atomicity} (f : formOf i ≡ Plain) (l : Legal p t i s s′) (d : Typed p t s′ c s″ a)
+    pub reads-plain : {i : Instruction} {c : Code} {s s′ s″ : LockSet} {a : Atomicity}
+        (f : formOf i ≡ Plain) (l : Legal p t i s s′) (d : Typed p t s′ c s″ a)
         → Reads h w (rows (typed-plain f l d) m)
         → (h w ≡ row i s m → Reads h (suc w) (rows d (behind m (atomicityOf p t i))) → C) → C
     unfolding rows
     reads-plain f l d (reads-cons h₀ r) go = go h₀ r
 
-    pub reads-choice : {g : ℕ} {a b c : Code} {s s′ s″ : LockSet} {x y z : Atomicity} (d₁ : Typed p t s a s′ x) (d₂ : Typed p t s b s′ y) (d : Typed p t s′ c s″ z)
+    pub reads-choice : {g : ℕ} {a b c : Code} {s s′ s″ : LockSet} {x y z : Atomicity}
+        (d₁ : Typed p t s a s′ x) (d₂ : Typed p t s b s′ y) (d : Typed p t s′ c s″ z)
         → Reads h w (rows (typed-choice {r = g} d₁ d₂ d) m)
         → (h w ≡ row (If g (size a + 1)) s m → Reads h (suc w) (rows d₁ m)
           → h (suc w + size a) ≡ row (Else (size b + 1)) s′ (behind m x) → Reads h (suc (suc w + size a)) (rows d₂ m)

@@ -38,11 +38,11 @@ unfolding moveBy
 moveBy-comm i j {t} {u} s n d =
     let one = moveBy i t s in
     let two = moveBy j u s in
-    let variables : variablesAfter (accessOf j) (threadOf one u .registers) (one .variables) ≡ variablesAfter (accessOf i) (threadOf two t .registers) (two .variables) =
+    let variables =
           ap (λ (th : Thread). variablesAfter (accessOf j) (th .registers) (one .variables)) (thread-other i t s u (Ne·symm n))
           ∙ d .variables (threadOf s t .registers) (threadOf s u .registers) (s .variables)
           ∙ sym (ap (λ (th : Thread). variablesAfter (accessOf i) (th .registers) (two .variables)) (thread-other j u s t n)) in
-    let threads : set (one .threads) u (mover j u one) ≡ set (two .threads) t (mover i t two) =
+    let threads =
           ap (set (one .threads) u) (mover-second i j s n d)
           ∙ set-comm (s .threads) t u (mover i t s) (mover j u s) n
           ∙ sym (ap (set (two .threads) t) (mover-first i j s n d)) in
@@ -54,7 +54,7 @@ module _ (p : Program) (i : Instruction) {t u : ℕ} (s : State) (n : u ≢ t) w
   unfolding instructionOf
   instruction-other = ap (λ (th : Thread). getD (codeOf p u) (th .place) End) (thread-other i t s u n)
 
-  pub outcome-other : waits (accessOf (instructionOf p u s)) (locksAfter (accessOf i) t (s .locks)) ≡ waits (accessOf (instructionOf p u s)) (s .locks)
+  pub outcome-other : (let x = accessOf (instructionOf p u s) in waits x (locksAfter (accessOf i) t (s .locks)) ≡ waits x (s .locks))
       → outcome p u (moveBy i t s) ≡ outcome p u s
   unfolding outcome moveBy
   outcome-other e =

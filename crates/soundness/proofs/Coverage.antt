@@ -62,7 +62,7 @@ covers-before w form.End q h = refl
 covered-before : (is : List Instruction) (w q : ℕ) → q ≤ w → coveredFrom w is q ≡ false
 unfolding coveredFrom
 covered-before [] w q h = refl
-covered-before (i ∷ is) w q h = or-false (covers w (formOf i) q) (coveredFrom (suc w) is q) (covers-before w (formOf i) q h) (covered-before is (suc w) q (omega arith))
+covered-before (i ∷ is) w q h = or-false _ _ (covers-before w (formOf i) q h) (covered-before is (suc w) q (omega arith))
 
 -- by the first part or by the second
 or-assoc : (a b c : Bool) → (a || (b || c)) ≡ ((a || b) || c)
@@ -78,7 +78,8 @@ covered-append (i ∷ l) k w q =
     ∙ or-assoc (covers w (formOf i) q) (coveredFrom (suc w) l q) (coveredFrom (w + suc (length l)) k q)
 
 -- code, and what comes behind it
-covered-behind : (c : Code) (k : List Instruction) (w q : ℕ) → coveredFrom w (flat c ++ k) q ≡ (coveredFrom w (flat c) q || coveredFrom (w + size c) k q)
+covered-behind : (c : Code) (k : List Instruction) (w q : ℕ)
+    → coveredFrom w (flat c ++ k) q ≡ (coveredFrom w (flat c) q || coveredFrom (w + size c) k q)
 covered-behind c k w q = covered-append (flat c) k w q ∙ ap (λ (n : ℕ). coveredFrom w (flat c) q || coveredFrom (w + n) k q) (length-flat c)
 
 -- an ATOMIC covers nothing past its END
@@ -102,7 +103,8 @@ unfolding flat coveredFrom covers
 covered-plain i c w q e = ap (λ (f : Form). covers w f q || coveredFrom (suc w) (flat c) q) e
 
 covered-choice : (r : ℕ) (a b c : Code) (w q : ℕ) → coveredFrom w (flat (choice r a b c)) q
-    ≡ (coveredFrom (suc w) (flat a) q || (coveredFrom (suc (suc w + size a)) (flat b) q || coveredFrom (suc (suc (suc w + size a) + size b)) (flat c) q))
+    ≡ (coveredFrom (suc w) (flat a) q
+      || (coveredFrom (suc (suc w + size a)) (flat b) q || coveredFrom (suc (suc (suc w + size a) + size b)) (flat c) q))
 unfolding flat coveredFrom covers formOf
 covered-choice r a b c w q =
     covered-behind a _ (suc w) q
@@ -136,14 +138,16 @@ module _ (h : ℕ → Row) where
 
 module _ {p : Program} {t : ℕ} where
   -- it covers nothing behind it
-  pub covered-past : {s s′ : LockSet} {c : Code} {a : Atomicity} → Typed p t s c s′ a → (w q : ℕ) → w + size c ≤ q → coveredFrom w (flat c) q ≡ false
+  pub covered-past : {s s′ : LockSet} {c : Code} {a : Atomicity} → Typed p t s c s′ a → (w q : ℕ) → w + size c ≤ q
+      → coveredFrom w (flat c) q ≡ false
   unfolding size
   covered-past typed-done w q h = covered-nil w q
   covered-past (typed-plain {i} {c} f l d) w q h = covered-plain i c w q f ∙ covered-past d (suc w) q (omega arith)
   covered-past (typed-choice {r} {a} {b} {c} d₁ d₂ d) w q h =
       covered-choice r a b c w q
       ∙ or-false _ _ (covered-past d₁ (suc w) q (omega arith))
-        (or-false _ _ (covered-past d₂ (suc (suc w + size a)) q (omega arith)) (covered-past d (suc (suc (suc w + size a) + size b)) q (omega arith)))
+        (or-false _ _ (covered-past d₂ (suc (suc w + size a)) q (omega arith))
+          (covered-past d (suc (suc (suc w + size a) + size b)) q (omega arith)))
   covered-past (typed-loop {r} {a} {c} d₁ d) w q h =
       covered-loop r a c w q ∙ or-false _ _ (covered-past d₁ (suc w) q (omega arith)) (covered-past d (suc (suc w + size a)) q (omega arith))
   covered-past (typed-block {a} {c} d₁ n d) w q h =
@@ -152,12 +156,15 @@ module _ {p : Program} {t : ℕ} where
         (or-false _ _ (covered-past d₁ (suc w) q (omega arith)) (covered-past d (suc (suc w + size a)) q (omega arith)))
 
   -- inside a block every place is inside
-  all-inner : {s s′ : LockSet} {c : Code} {a : Atomicity} (d : Typed p t s c s′ a) (x : Atomicity) → All (λ (r : Row). isInner (r .prefix) ≡ true) (rows d (inner x))
+  all-inner : {s s′ : LockSet} {c : Code} {a : Atomicity} (d : Typed p t s c s′ a) (x : Atomicity)
+      → All (λ (r : Row). isInner (r .prefix) ≡ true) (rows d (inner x))
   unfolding rows isInner
   all-inner typed-done x = all-nil
   all-inner (typed-plain {i} f l d) x = all-cons refl (all-inner d (composition x (atomicityOf p t i)))
   all-inner (typed-choice {x = y} {y = z} d₁ d₂ d) x =
-      all-cons refl (all-append (all-inner d₁ x) (all-cons refl (all-append (all-inner d₂ x) (all-cons refl (all-inner d (composition x (join y z)))))))
+      all-cons refl (all-append (all-inner d₁ x)
+      (all-cons refl (all-append (all-inner d₂ x)
+      (all-cons refl (all-inner d (composition x (join y z)))))))
   all-inner (typed-loop {x = y} d₁ d) x =
       all-cons refl (all-append (all-inner d₁ (composition x (closure y))) (all-cons refl (all-inner d (composition x (closure y)))))
   all-inner (typed-block {x = y} d₁ n d) x =
@@ -221,11 +228,15 @@ module _ {p : Program} {t : ℕ} where
       let Q : ℕ → Type 0 = λ q. isInner (h q .prefix) ≡ true in
       let w₁ = suc w + size a in
       reads-block outer d₁ n d r λ h₀ r₁ h₁ r₂.
-      let body : Span Q (suc w) w₁ = subst (λ (n : ℕ). Span Q (suc w) (suc w + n)) (length-rows d₁ (inner Both)) (reads-all (λ (r : Row). isInner (r .prefix) ≡ true) r₁ (all-inner d₁ Both)) in
+      let body : Span Q (suc w) w₁ =
+            subst (λ (n : ℕ). Span Q (suc w) (suc w + n)) (length-rows d₁ (inner Both))
+            (reads-all (λ (r : Row). isInner (r .prefix) ≡ true) r₁ (all-inner d₁ Both)) in
       let end : Q w₁ = ap (λ (r : Row). isInner (r .prefix)) h₁ in
       span-join P (span-one P w (agrees-start h (block a c) h₀))
       (span-join P
-      (λ q k l. covered-block a c w q ∙ or-true _ _ (covers-inside w (size a + 1) q k (omega arith)) ∙ sym (span-join Q body (span-one Q w₁ end) q k l))
+      (λ q k l. covered-block a c w q
+        ∙ or-true _ _ (covers-inside w (size a + 1) q k (omega arith))
+        ∙ sym (span-join Q body (span-one Q w₁ end) q k l))
       (λ q k l. covered-block a c w q
         ∙ or-right _ _ (covers-past w (size a + 1) q (omega arith))
         ∙ or-right _ _ (covered-past d₁ (suc w) q (omega arith))

@@ -22,7 +22,8 @@ use Rattle.soundness.proofs.Serialize.{serialized}
 use Rattle.soundness.proofs.Typing.{bind-fine}
 
 -- a sound file's program is that of its layout
-sound-reading : {C : Type 0} (file : List ℕ) (r : Reading) {p : Program} → programRead file r ≡ fine p → ((l : Layout) → r ≡ Sound l → programOf file l ≡ p → C) → C
+sound-reading : {C : Type 0} (file : List ℕ) (r : Reading) {p : Program} → programRead file r ≡ fine p
+    → ((l : Layout) → r ≡ Sound l → programOf file l ≡ p → C) → C
 sound-reading file (Sound l) e k = k l refl (cc)
 sound-reading file (Refused r) e k = absurd (let z : _≡_ {A = ℕ} 0 1 = cc in omega arith)
 

@@ -105,7 +105,8 @@ module _ (p : Program) (t : ℕ) where
     plain-part : {i : Instruction} {s s′ : LockSet} {m : Prefix} {w v : ℕ} → formOf i ≡ Plain → Legal p t i s s′ → h w ≡ row i s m
         → Proper (behind m (atomicityOf p t i)) → w < last → Code-at s′ (behind m (atomicityOf p t i)) (suc w) v → Code-at s m w v
     plain-part {i} {s} {m} {w} f l h₁ proper b rest =
-        let follows : Follows p t (row i s m) (h (suc w)) = record { legal = subst (Legal p t i s) (rest .begun .same) l; goes = goes-behind m (rest .begun .below) proper } in
+        let follows : Follows p t (row i s m) (h (suc w)) =
+              record { legal = subst (Legal p t i s) (rest .begun .same) l; goes = goes-behind m (rest .begun .below) proper } in
         record
         { begun = leads-at h₁ (below-refl m)
         ; moves = move w h₁ (λ r. arrives-at (omega (arith, plain-next i f r w)) follows b) then rest .moves
@@ -176,7 +177,8 @@ module _ (p : Program) (t : ℕ) where
     proper-first : (m : Prefix) (a b : Atomicity) → Proper (behind m (composition a b)) → Proper (behind m a)
     proper-first m a b k = proper-below (below-behind (behind m a) b) (proper-then m a b k)
 
-    leads-then : {s : LockSet} {to : Row} (m : Prefix) (a b : Atomicity) → Leads s (behind m (composition a b)) to → Leads s (behind (behind m a) b) to
+    leads-then : {s : LockSet} {to : Row} (m : Prefix) (a b : Atomicity) → Leads s (behind m (composition a b)) to
+        → Leads s (behind (behind m a) b) to
     leads-then m a b k = rw (behind-behind m a b) k
 
     -- typed code that is read from place w to before v, and may go on at v

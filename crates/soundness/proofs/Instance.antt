@@ -100,11 +100,11 @@ module _ (p : Program) (A : (t : ℕ) → Annotated p t) where
       (sym (X .next)) (goes p A (X .invariant) (x .thread) (X .moved))
 
   -- a thread that is still inside has not finished its block
-  same-block : {g : Named} → Invariant p A g → (t : ℕ) → outcome p t (g .machine) ≡ Moved → statusOf (rowOf p A (movedNamed p t g) t .prefix) ≢ outside
-      → blockOf (movedNamed p t g) t ≡ blockOf g t
+  same-block : {g : Named} → Invariant p A g → (t : ℕ) → outcome p t (g .machine) ≡ Moved
+      → statusOf (rowOf p A (movedNamed p t g) t .prefix) ≢ outside → blockOf (movedNamed p t g) t ≡ blockOf g t
   unfolding blockOf movedNamed
   same-block {g} inv t e n =
-      let inner : inside p (moved p t (g .machine)) t ≡ true = inside-row (invariant-moved p A inv t e) t ∙ not-outside-inner (rowOf p A (movedNamed p t g) t .prefix) n in
+      let inner = inside-row (invariant-moved p A inv t e) t ∙ not-outside-inner (rowOf p A (movedNamed p t g) t .prefix) n in
       ap (λ (k : ℕ). record { thread = t; number = k })
       (getD-set-same (g .finished) t _ 0 (in-finished p A inv t e) ∙ ap (λ (b : Bool). finishedAfter b (getD (g .finished) t 0)) inner)
 
@@ -118,7 +118,8 @@ module _ (p : Program) (A : (t : ℕ) → Annotated p t) where
   unfolding blockName blockOf moveOf
   named-block X = ap blockName (X .named)
 
-  ends-inside : {g h : Named} {x : Move} → Moving p A g x h → statusOf (rowOf p A h (x .thread) .prefix) ≢ outside → blockOf h (x .thread) ≡ blockName x
+  ends-inside : {g h : Named} {x : Move} → Moving p A g x h → statusOf (rowOf p A h (x .thread) .prefix) ≢ outside
+      → blockOf h (x .thread) ≡ blockName x
   ends-inside {g} {h} {x} X n =
       ap (λ (k : Named). blockOf k (x .thread)) (X .next)
       ∙ same-block (X .invariant) (x .thread) (X .moved) (subst (λ (k : Named). statusOf (rowOf p A k (x .thread) .prefix) ≢ outside) (X .next) n)
@@ -138,5 +139,6 @@ module _ (p : Program) (A : (t : ℕ) → Annotated p t) where
     ; committed = λ {s} {u} {m} X e. goes-committed (goes-move X) e
     ; right-mover = λ {s} {u} {v} {x} {y} X Y n e. swappable X Y n (right-first (goes-right (goes-move X) e))
     ; left-mover = λ {s} {u} {v} {x} {y} X Y n e. swappable X Y (Ne·symm n)
-        (left-second (subst (λ (j : Instruction). T (atMost (atomicityOf p (y .thread) j) Left)) (same-second X n) (goes-left (goes-move Y) (unmoved X n .0 ∙ e))))
+        (left-second (subst (λ (j : Instruction). T (atMost (atomicityOf p (y .thread) j) Left)) (same-second X n)
+          (goes-left (goes-move Y) (unmoved X n .0 ∙ e))))
     }

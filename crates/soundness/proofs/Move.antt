@@ -120,14 +120,19 @@ module _ (p : Program) (A : (t : ℕ) → Annotated p t) where
     arrives =
         let registers = threadOf (g .machine) t .registers in
         let to = ap (λ (j : Instruction). placeAfter j registers (placeOf p A g t)) same-instruction ∙ sym place-moved in
-        subst (λ (q : ℕ). Follows p t (rowOf p A g t) (A t .rowAt q) × (q ≤ length (codeOf p t))) to (A t .flows (placeOf p A g t) in-code registers)
+        subst (λ (q : ℕ). Follows p t (rowOf p A g t) (A t .rowAt q) × (q ≤ length (codeOf p t))) to
+        (A t .flows (placeOf p A g t) in-code registers)
 
     legal : Legal p t (nextInstruction p g t) (rowOf p A g t .locks) (rowOf p A (movedNamed p t g) t .locks)
-    legal = subst (λ (j : Instruction). Legal p t j (rowOf p A g t .locks) (rowOf p A (movedNamed p t g) t .locks)) same-instruction (arrives .0 .legal)
+    legal =
+        subst (λ (j : Instruction). Legal p t j (rowOf p A g t .locks) (rowOf p A (movedNamed p t g) t .locks))
+        same-instruction (arrives .0 .legal)
 
     -- what its ends say of the move
     pub goes : Goes (nextMover p g t) (rowOf p A g t .prefix) (rowOf p A (movedNamed p t g) t .prefix)
-    goes = subst (λ (j : Instruction). Goes (atomicityOf p t j) (rowOf p A g t .prefix) (rowOf p A (movedNamed p t g) t .prefix)) same-instruction (arrives .0 .goes)
+    goes =
+        subst (λ (j : Instruction). Goes (atomicityOf p t j) (rowOf p A g t .prefix) (rowOf p A (movedNamed p t g) t .prefix))
+        same-instruction (arrives .0 .goes)
 
     pub permitted : Permitted p t (rowOf p A g t .locks) (nextAccess p g t)
     permitted = legal-permitted (nextInstruction p g t) legal
@@ -146,7 +151,8 @@ module _ (p : Program) (A : (t : ℕ) → Annotated p t) where
     unfolding movedNamed moved moveBy
     invariant-moved = record
       { owns = λ u. dite (ℕ-discrete u t)
-          (λ (same : u ≡ t). subst (λ (v : ℕ). Owns v (rowOf p A (movedNamed p t g) v .locks) (movedNamed p t g .machine .locks)) (sym same) owns-mine)
+          (λ (same : u ≡ t).
+            subst (λ (v : ℕ). Owns v (rowOf p A (movedNamed p t g) v .locks) (movedNamed p t g .machine .locks)) (sym same) owns-mine)
           (λ (n : u ≢ t). subst (λ (r : Row). Owns u (r .locks) (movedNamed p t g .machine .locks)) (sym (row-other g t u n))
             (owns-other (inv .owns t) (Ne·symm n) (inv .owns u) (nextAccess p g t) permitted (moved-waits p t (g .machine) e)))
       ; places = λ u. dite (ℕ-discrete u t)

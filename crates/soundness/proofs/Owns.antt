@@ -26,7 +26,9 @@ take-free k ks e = eqb-true (getD ks k 0) 0 (not-false (eqb (getD ks k 0) 0) e)
 unset : (l : List Bool) (k : ℕ) → getD (set l k false) k false ≡ false
 unset l k = dite (decLt k (length l))
     (λ (h : k < length l). getD-set-same l k false false h)
-    (λ (n : ¬ (k < length l)). let h : length (set l k false) ≤ k = omega (arith, length-set l k false) in List·getD-eq-default (set l k false) false h)
+    (λ (n : ¬ (k < length l)).
+      let h : length (set l k false) ≤ k = omega (arith, length-set l k false) in
+      List·getD-eq-default (set l k false) false h)
 
 set-unset : {b : Bool} → b ≡ true → b ≡ false → ⊥
 set-unset e f = let z : _≡_ {A = ℕ} 0 1 = cc in omega arith
@@ -46,7 +48,8 @@ module _ {p : Program} {t : ℕ} {s : LockSet} {ks : List ℕ} (mine : Owns t s 
     (λ (n : j ≢ k). getD-set-other ks k j 0 0 n ∙ mine .owner j (sym (getD-set-other (s .held) k j false false n) ∙ e)) }
 
   -- and every other thread what it held
-  pub owns-other : {u : ℕ} {s′ : LockSet} → t ≢ u → Owns u s′ ks → (x : Access) → Permitted p t s x → waits x ks ≡ false → Owns u s′ (locksAfter x t ks)
+  pub owns-other : {u : ℕ} {s′ : LockSet} → t ≢ u → Owns u s′ ks → (x : Access) → Permitted p t s x → waits x ks ≡ false
+      → Owns u s′ (locksAfter x t ks)
   unfolding locksAfter
   owns-other n yours none h f = yours
   owns-other n yours (reads v) h f = yours

@@ -37,10 +37,10 @@ module _ (p : Program) (t : ℕ) (ts : List ℕ) (g : Named) where
       → runOf p c g (t ∷ ts) ≡ runOf p (counted o c) (afterNamed o g (movedNamed p t g)) ts
   unfolding runFrom step movedNamed moved
   run-by {o} c e =
-      ap (λ (o : Outcome). runFrom p (record { counts = counted o c; state = after o (g .machine) (moveBy (instructionOf p t (g .machine)) t (g .machine)) }) ts) e
+      ap (λ (o : Outcome). runFrom p (record { counts = counted o c; state = after o (g .machine) (moved p t (g .machine)) }) ts) e
       ∙ ap (λ (s : State). runFrom p (record { counts = counted o c; state = s }) ts) (after-named o)
     where
-      after-named : (o : Outcome) → after o (g .machine) (moveBy (instructionOf p t (g .machine)) t (g .machine)) ≡ afterNamed o g (movedNamed p t g) .machine
+      after-named : (o : Outcome) → after o (g .machine) (moved p t (g .machine)) ≡ afterNamed o g (movedNamed p t g) .machine
       after-named Moved = refl
       after-named Waiting = refl
       after-named Idle = refl
@@ -92,10 +92,13 @@ module _ (p : Program) (A : (t : ℕ) → Annotated p t) where
   traced (t ∷ ts) g c inv =
       by-outcome (outcome p t (g .machine)) refl (λ h d k. traced ts h d k)
     where
-      by-outcome : (o : Outcome) → outcome p t (g .machine) ≡ o → ((h : Named) (d : Counts) → Invariant p A h → Traced p A ts h d) → Traced p A (t ∷ ts) g c
+      by-outcome : (o : Outcome) → outcome p t (g .machine) ≡ o → ((h : Named) (d : Counts) → Invariant p A h → Traced p A ts h d)
+          → Traced p A (t ∷ ts) g c
       by-outcome Moved e rest = moved-entry t ts g c inv e (rest (movedNamed p t g) (counted Moved c) (invariant-moved p A inv t e))
-      by-outcome Waiting e rest = other-entry t ts g c (counted Waiting c) refl (run-by p t ts g c e) (moves-by p t ts g e) (rest g (counted Waiting c) inv)
-      by-outcome Idle e rest = other-entry t ts g c (counted Idle c) refl (run-by p t ts g c e) (moves-by p t ts g e) (rest g (counted Idle c) inv)
+      by-outcome Waiting e rest =
+          other-entry t ts g c (counted Waiting c) refl (run-by p t ts g c e) (moves-by p t ts g e) (rest g (counted Waiting c) inv)
+      by-outcome Idle e rest =
+          other-entry t ts g c (counted Idle c) refl (run-by p t ts g c e) (moves-by p t ts g e) (rest g (counted Idle c) inv)
 
   -- ---- from a trace to a list
 
@@ -113,7 +116,7 @@ module _ (p : Program) (A : (t : ℕ) → Annotated p t) where
       { uninterrupted =
           (e,
           (λ u b n. inside-row p A inv u ∙ outside-outer (rowOf p A g u .prefix) (alone u n)),
-          subst (λ (x : State). UninterruptedFrom p x (threads l)) (sym (ap (λ (o : Outcome). after o s (moveBy (instructionOf p t s) t s)) e)) (r .uninterrupted))
+          subst (λ (x : State). UninterruptedFrom p x (threads l)) (sym (ap (λ (o : Outcome). after o s (moved p t s)) e)) (r .uninterrupted))
       ; same-state = ap (λ (x : Run). x .state) (run-by p t (threads l) g c e) ∙ r .same-state
       ; same-moved = ap (λ (x : Run). x .counts .moved) (run-by p t (threads l) g c e) ∙ r .same-moved ∙ omega arith
       ; same-moves =
@@ -124,8 +127,15 @@ module _ (p : Program) (A : (t : ℕ) → Annotated p t) where
 
   pub listed : {g v : Named} {l : List Move} (c : Counts) → Uninterrupted (machineMoves p A) g l v → Invariant p A g → Listed p l g v c
   unfolding UninterruptedFrom runFrom movesFrom
-  listed c alone-nil inv = record { uninterrupted = tt; same-state = refl; same-moved = sym (add-zero (c .moved)); same-moves = refl; threads = threads-nil p }
+  listed c alone-nil inv = record
+    { uninterrupted = tt
+    ; same-state = refl
+    ; same-moved = sym (add-zero (c .moved))
+    ; same-moves = refl
+    ; threads = threads-nil p
+    }
   listed {v} c (alone-cons {m} {l} alone X rest) inv =
       let inv′ = invariant-moved p A inv (m .thread) (X .moved) in
       listed-cons c inv alone (X .moved) (X .named)
-      (subst (λ (k : Named). Listed p l k v (counted Moved c)) (X .next) (listed (counted Moved c) rest (subst (Invariant p A) (sym (X .next)) inv′)))
+      (subst (λ (k : Named). Listed p l k v (counted Moved c)) (X .next)
+      (listed (counted Moved c) rest (subst (Invariant p A) (sym (X .next)) inv′)))

@@ -3,7 +3,7 @@ use Prim.Native.Nat.{ℕ, _+_, _*_}
 use native.Mathlib.Omega.{arith}
 use mathlib.Core.Path.{_≡_, refl, sym, ap, _∙_, subst}
 use mathlib.Core.Logic.{_≢_}
-use mathlib.Core.Bool.{Bool, true, false, not}
+use mathlib.Core.Bool.{Bool, true, false, not, false≢true}
 use mathlib.Core.List.{List, [], _∷_}
 use lib.Dec.{eqb}
 use Rattle.atomicity.specs.Atomicity.{composition, join, closure, reportByte}
@@ -34,7 +34,7 @@ pub require-fine : {A C : Type 0} (ok : Bool) (r : Refusal) (x : Answer A) {a : 
 require-fine true r x e k = k refl e
 require-fine false r x e k = absurd (let z : _≡_ {A = ℕ} 0 1 = cc in omega arith)
 
--- ---- equal sets, and T
+-- ---- what the tests say
 
 same-flag : (a b : Bool) → sameFlag a b ≡ true → a ≡ b
 same-flag true b e = sym e
@@ -57,7 +57,7 @@ same-sets s t e = λ i. record { held = same-flags (s .held) (t .held) e i }
 
 not-top : (a : Atomicity) → not (isTop a) ≡ true → a ≢ Top
 unfolding isTop
-not-top a e f = let z : _≡_ {A = Bool} false true = subst (λ (x : Atomicity). not (eqb (reportByte x) (reportByte Top)) ≡ true) f e in let z′ : _≡_ {A = ℕ} 0 1 = cc in omega arith
+not-top a e f = false≢true (subst (λ (x : Atomicity). not (eqb (reportByte x) (reportByte Top)) ≡ true) f e)
 
 -- ---- the derivation
 
@@ -87,9 +87,9 @@ module _ (p : Program) (t : ℕ) where
       bind-fine (judge p t (d + 4) s a) _ e λ body e₁ f₁.
       require-fine (same s (body .locks)) _ _ f₁ λ e₂ f₂.
       bind-fine (judge p t (d + 4 + 4 * size a + 4) s c) _ f₂ λ rest e₃ f₃.
-      let turn = judge-typed a (w .0) (d + 4) s e₁ in
-      told _ _ f₃
-      (typed-loop (subst (λ (s′ : LockSet). Typed p t s a s′ (body .atomicity)) (sym (same-sets s (body .locks) e₂)) turn) (judge-typed c (w .1) _ s e₃))
+      let again = sym (same-sets s (body .locks) e₂) in
+      let turn = subst (λ (s′ : LockSet). Typed p t s a s′ (body .atomicity)) again (judge-typed a (w .0) (d + 4) s e₁) in
+      told _ _ f₃ (typed-loop turn (judge-typed c (w .1) _ s e₃))
   judge-typed (block a c) w d s e =
       bind-fine (judge p t (d + 4) s a) _ e λ body e₁ f₁.
       require-fine (not (isTop (body .atomicity))) _ _ f₁ λ e₂ f₂.
