@@ -1,38 +1,32 @@
 -- What an accepted file's program is: each thread's code is well nested, typed, and takes only locks that there are. Assumes nothing.
-use Prim.Native.Nat.{ℕ, zero, suc, _+_, _*_, _/_, _≤_, _<_}
+use Prim.Native.Nat.{ℕ, zero, suc, _+_, _*_, _≤_, _<_}
 use native.Mathlib.Decide.{decLt}
 use native.Mathlib.Nat.{add-zero, zero-add}
 use native.Mathlib.Omega.{arith}
-use mathlib.Core.Path.{_≡_, refl, sym, ap, _∙_, subst}
+use mathlib.Core.Path.{_≡_, refl, sym, subst}
 use mathlib.Core.Logic.{dite}
-use mathlib.Core.List.{List, [], _∷_, _++_}
+use mathlib.Core.List.{List, [], _∷_}
 use lib.ListN.{length, getD, List·getD-eq-default}
-use Rattle.atomicity.specs.Atomicity.{reportByte}
-use Rattle.atomicity.specs.declared.Atomicity.{Atomicity}
-use Rattle.judge.specs.Acceptance.{Accepted, accept, sound, programRead}
-use Rattle.judge.specs.Judging.{Judged, judge, judgeThread, judgeThreads, judgeProgram}
+use Rattle.judge.specs.Judging.{judge, judgeThread, judgeThreads, judgeProgram}
 use Rattle.judge.specs.LockSet.{empty}
-use Rattle.judge.specs.declared.lock_set.LockSet.{LockSet}
 use Rattle.machine.specs.State.{codeOf}
 use Rattle.machine.specs.Step.{accessOf}
 use Rattle.program.proofs.Contents.{length-instructions, getD-instructions}
 use Rattle.program.proofs.Decode.{instruction-fields}
 use Rattle.program.proofs.Structure.{nested-flat}
-use Rattle.program.specs.Choice.{Answer, fine, refused}
+use Rattle.program.specs.Choice.{fine}
 use Rattle.program.specs.Code.{structure, structured}
 use Rattle.program.specs.Instruction.{decodeAt, instructionOf}
-use Rattle.program.specs.Layout.{Program, CodeSection, programOf, reading, instructionsAt, threadsAt}
+use Rattle.program.specs.Layout.{Program, CodeSection, programOf, instructionsAt, threadsAt}
 use Rattle.program.specs.Nesting.{firstBroken, atCodeEnd}
 use Rattle.program.specs.Sound.{FieldsGood, SoundFile, SoundSection, SoundSections, countAt}
 use Rattle.program.specs.WellFormed.{WellFormed, Writes}
 use Rattle.program.specs.declared.instruction.Instruction.{Instruction}
 use Rattle.program.specs.declared.instruction.Instruction.the-variants.{Set, Copy, Add, Sub, Less, Read, Write, Take, Give, If, Else, While, Again, Atomic, End}
 use Rattle.program.specs.declared.layout.Layout.{Layout}
-use Rattle.program.specs.declared.layout.Reading.{Reading}
-use Rattle.program.specs.declared.layout.Reading.the-variants.{Sound, Refused}
 use Rattle.soundness.specs.Access.{TakesBelow}
 use Rattle.soundness.specs.Instance.{Annotated}
-use Rattle.soundness.specs.Typing.{Typed, typed-done}
+use Rattle.soundness.specs.Typing.{typed-done}
 use Rattle.soundness.specs.WellNested.{noSection, TakesGood, WellNested, Derived}
 use Rattle.soundness.proofs.Annotated.{annotated}
 use Rattle.soundness.proofs.Typing.{bind-fine, judge-typed}

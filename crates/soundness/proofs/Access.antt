@@ -8,7 +8,7 @@ use Rattle.judge.specs.Discipline
 use Rattle.judge.specs.LockSet.{holds, withLock, withoutLock}
 use Rattle.judge.specs.declared.lock_set.LockSet.{LockSet}
 use Rattle.machine.specs.Step.{accessOf}
-use Rattle.program.specs.Choice.{Answer, fine, refused, choose}
+use Rattle.program.specs.Choice.{fine, refused, choose}
 use Rattle.program.specs.Layout.{Program}
 use Rattle.program.specs.declared.instruction.Instruction.{Instruction}
 use Rattle.program.specs.declared.instruction.Instruction.the-variants.{Set, Copy, Add, Sub, Less, Read, Write, Take, Give, If, Else, While, Again, Atomic, End}

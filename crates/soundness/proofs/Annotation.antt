@@ -1,5 +1,5 @@
 -- Laws of a derivation written out flat: its length, its instructions; reading a list place by place; spans of places. Assumes nothing.
-use Prim.Native.Nat.{ℕ, zero, suc, _+_, _≤_, _<_}
+use Prim.Native.Nat.{ℕ, suc, _+_, _<_}
 use native.Mathlib.Decide.{decLt}
 use native.Mathlib.Nat.{add-zero, suc-add, add-suc, zero-add}
 use native.Mathlib.Omega.{arith}

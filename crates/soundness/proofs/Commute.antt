@@ -1,15 +1,14 @@
 -- Two moves with independent accesses commute. Assumes nothing.
 use Prim.Native.Nat.{ℕ}
-use mathlib.Core.Path.{_≡_, refl, sym, ap, ap₂, _∙_, subst}
+use mathlib.Core.Path.{_≡_, sym, ap, ap₂, _∙_}
 use mathlib.Core.Logic.{_≢_, Ne·symm}
 use mathlib.Core.Bool.{Bool}
-use mathlib.Core.List.{List}
 use lib.ListN.{length, getD, set}
 use lib.Seq.{getD-set-other, set-comm}
 use lib.Dec.{eqb}
 use Rattle.machine.specs.Block.{coveredFrom, inside}
 use Rattle.machine.specs.State.{State, codeOf, threadOf}
-use Rattle.machine.specs.Step.{Access, accessOf, waits, valueRead, variablesAfter, locksAfter, threadAfter, instructionOf, moveBy, outcome}
+use Rattle.machine.specs.Step.{accessOf, waits, variablesAfter, locksAfter, threadAfter, instructionOf, moveBy, outcome}
 use Rattle.machine.specs.declared.thread.Outcome.the-variants.{Moved, Waiting, Idle}
 use Rattle.machine.specs.declared.thread.Thread.{Thread}
 use Rattle.program.specs.Choice.{choose}

@@ -1,12 +1,12 @@
 -- A place of typed code is covered by an ATOMIC exactly if its row has an inner prefix (`coverage`). Assumes nothing.
-use Prim.Native.Nat.{ℕ, zero, suc, _+_, _≤_, _<_}
+use Prim.Native.Nat.{ℕ, suc, _+_, _≤_, _<_}
 use native.Mathlib.Nat.{add-zero}
 use native.Mathlib.Omega.{arith}
 use borrow.Author.Tests.{lt-ltb, le-ltb, le-leb, lt-leb}
 use mathlib.Core.Path.{_≡_, refl, sym, ap, _∙_, subst}
 use mathlib.Core.Bool.{Bool, true, false, _&&_, _||_}
 use mathlib.Core.List.{List, [], _∷_, _++_}
-use lib.ListN.{length, length-append}
+use lib.ListN.{length}
 use lib.Dec.{ltb, leb}
 use Rattle.atomicity.specs.Atomicity.{composition, join, closure}
 use Rattle.atomicity.specs.declared.Atomicity.{Atomicity}
@@ -25,9 +25,9 @@ use Rattle.program.specs.declared.instruction.Instruction.{Instruction}
 use Rattle.program.specs.declared.instruction.Instruction.the-variants.{If, Else, While, Again, Atomic, End}
 use Rattle.reduction.specs.Sequence.{All, all-nil, all-cons}
 use Rattle.soundness.specs.Annotation.{Row, row, rows, Reads, Span}
-use Rattle.soundness.specs.Prefix.{Prefix, outer, inner, isInner, behind, entered}
+use Rattle.soundness.specs.Prefix.{outer, inner, isInner}
 use Rattle.soundness.specs.Typing.{Typed, typed-done, typed-plain, typed-choice, typed-loop, typed-block}
-use Rattle.soundness.proofs.Annotation.{reads-plain, reads-choice, reads-loop, reads-block, reads-all, all-append, span-empty, span-one, span-join, length-rows}
+use Rattle.soundness.proofs.Annotation.{reads-plain, reads-choice, reads-loop, reads-block, reads-all, all-append, span-one, span-join, length-rows}
 
 -- ---- covered by some instruction of a list
 

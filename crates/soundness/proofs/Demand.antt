@@ -5,17 +5,15 @@ use mathlib.Core.Path.{_≡_, refl, sym, ap, _∙_, subst}
 use mathlib.Core.List.{List}
 use Rattle.judge.specs.Acceptance.{Accepted, accept, sound, programRead}
 use Rattle.judge.specs.Judging.{judgeProgram}
-use Rattle.machine.specs.Block.{NobodyInside}
-use Rattle.machine.specs.Run.{run}
 use Rattle.program.proofs.Sound.{sound-file}
-use Rattle.program.specs.Choice.{Answer, fine, refused}
+use Rattle.program.specs.Choice.{fine}
 use Rattle.program.specs.Layout.{Program, programOf, reading}
 use Rattle.program.specs.declared.layout.Layout.{Layout}
 use Rattle.program.specs.declared.layout.Reading.{Reading}
 use Rattle.program.specs.declared.layout.Reading.the-variants.{Sound, Refused}
-use Rattle.soundness.specs.Demand.{Serialized, Demand3}
+use Rattle.soundness.specs.Demand.{Demand3}
 use Rattle.soundness.specs.Instance.{Annotated}
-use Rattle.soundness.specs.Order.{SerializedInOrder, Demand3InOrder}
+use Rattle.soundness.specs.Order.{Demand3InOrder}
 use Rattle.soundness.specs.WellNested.{WellNested}
 use Rattle.soundness.proofs.Accepted.{sound-nested, judged-annotated}
 use Rattle.soundness.proofs.Serialize.{serialized}

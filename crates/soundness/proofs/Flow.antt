@@ -1,10 +1,9 @@
 -- Wherever a thread goes from a place of typed code, the row there follows (`flow`). Assumes nothing.
-use Prim.Native.Nat.{ℕ, zero, suc, _+_, _-_, _≤_, _<_}
-use native.Mathlib.Nat.{add-zero}
+use Prim.Native.Nat.{ℕ, suc, _+_, _≤_, _<_}
 use native.Mathlib.Omega.{arith}
 use mathlib.Core.Path.{_≡_, refl, sym, ap, _∙_, subst}
 use mathlib.Core.Bool.{Bool, true, false}
-use mathlib.Core.List.{List, [], _∷_, _++_}
+use mathlib.Core.List.{List}
 use lib.Dec.{eqb}
 use Rattle.atomicity.specs.Atomicity.{composition, join, closure}
 use Rattle.atomicity.specs.declared.Atomicity.{Atomicity}
@@ -21,7 +20,7 @@ use Rattle.program.specs.declared.instruction.Form.the-variants as form
 use Rattle.program.specs.declared.instruction.Instruction.{Instruction}
 use Rattle.program.specs.declared.instruction.Instruction.the-variants.{Set, Copy, Add, Sub, Less, Read, Write, Take, Give, If, Else, While, Again, Atomic, End}
 use Rattle.soundness.specs.Annotation.{Row, row, rows, Reads, Span, Follows, Leads, FlowsFrom, Flows, Part}
-use Rattle.soundness.specs.Prefix.{Prefix, outer, inner, behind, entered, Below, Proper, proper-outer, proper-inner, Goes}
+use Rattle.soundness.specs.Prefix.{Prefix, behind, entered, Below, Proper}
 use Rattle.soundness.specs.Typing.{Legal, Typed, typed-done, typed-plain, typed-choice, typed-loop, typed-block}
 use Rattle.soundness.proofs.Annotation.{reads-plain, reads-choice, reads-loop, reads-block, span-empty, span-one, span-join}
 use Rattle.soundness.proofs.Prefix.{behind-both, behind-behind, below-refl, below-behind, below-first, below-second, below-turn, proper-below, goes-behind, goes-in, goes-out, proper-entered}

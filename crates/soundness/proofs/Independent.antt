@@ -20,7 +20,7 @@ use Rattle.machine.specs.Step.{Access, none, reads, writes, takes, gives, waits
 use Rattle.program.specs.Layout.{Program}
 use Rattle.program.specs.declared.variable.Kind.{Kind}
 use Rattle.program.specs.declared.variable.Kind.the-variants.{Guarded, Own, Fixed, Open}
-use Rattle.soundness.specs.Access.{Permitted, none-permitted, read-permitted, write-permitted, take-permitted, give-permitted, accessMover, TakesBelow, Owns, NoLock, NoVariable, Independent, Swaps, right-first, left-second}
+use Rattle.soundness.specs.Access.{Permitted, read-permitted, write-permitted, give-permitted, accessMover, TakesBelow, Owns, NoLock, NoVariable, Independent, Swaps, right-first, left-second}
 use Rattle.soundness.proofs.Owns.{take-free}
 
 -- ---- pairs that are independent

@@ -1,24 +1,21 @@
 -- The step machine obeys the laws of movers (`machine-movers`). Assumes nothing.
-use Prim.Native.Nat.{ℕ, suc}
-use native.Mathlib.Omega.{arith}
+use Prim.Native.Nat.{ℕ}
 use mathlib.Core.Path.{_≡_, refl, sym, ap, _∙_, subst, subst₂}
 use mathlib.Core.Logic.{_≢_, Ne·symm}
-use mathlib.Core.Bool.{Bool, true, false}
-use mathlib.Core.List.{List}
-use lib.ListN.{length, getD, set}
+use mathlib.Core.Bool.{Bool, false}
+use lib.ListN.{getD}
 use lib.Seq.{getD-set-same}
 use lib.Dec.{T}
 use Rattle.atomicity.specs.Atomicity.{atMost}
-use Rattle.atomicity.specs.declared.Atomicity.the-variants.{Left, Right}
+use Rattle.atomicity.specs.declared.Atomicity.the-variants.{Left}
 use Rattle.judge.specs.Discipline.{atomicityOf}
 use Rattle.machine.specs.Block.{inside}
-use Rattle.machine.specs.State.{State, codeOf, threadOf}
 use Rattle.machine.specs.Step.{accessOf, waits, locksAfter, instructionOf, moveBy, outcome}
 use Rattle.machine.specs.declared.thread.Outcome.the-variants.{Moved}
 use Rattle.program.specs.Layout.{Program}
 use Rattle.program.specs.declared.instruction.Instruction.{Instruction}
-use Rattle.reduction.specs.Moves.{Movers, Unmoved, Swappable, outside, beforeCommit, afterCommit}
-use Rattle.soundness.specs.Access.{Permitted, Independent, Swaps, right-first, left-second, accessMover}
+use Rattle.reduction.specs.Moves.{Movers, Unmoved, Swappable, outside}
+use Rattle.soundness.specs.Access.{Permitted, Independent, Swaps, right-first, left-second}
 use Rattle.soundness.specs.Annotation.{Row}
 use Rattle.soundness.specs.Instance.{nextInstruction, nextAccess, nextMover, Swapped, Annotated, placeOf, rowOf, Invariant, Moving, machineMoves}
 use Rattle.soundness.specs.Naming.{Move, Named, blockName, blockOf, moveOf, moved, movedNamed, finishedAfter}

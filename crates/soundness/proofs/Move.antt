@@ -1,27 +1,25 @@
 -- One move: what the invariant says of it, and that it keeps the invariant. Assumes nothing.
-use Prim.Native.Nat.{ℕ, zero, suc, _+_, _≤_, _<_}
+use Prim.Native.Nat.{ℕ, _+_, _≤_, _<_}
 use native.Mathlib.Decide.{ℕ-discrete, decLt}
 use native.Mathlib.Omega.{arith}
-use borrow.Author.Tests.{eqb-false, eq-eqb}
+use borrow.Author.Tests.{eqb-false}
 use mathlib.Core.Path.{_≡_, refl, sym, ap, _∙_, subst}
 use mathlib.Core.Logic.{_≢_, Ne·symm, dite}
 use mathlib.Core.Bool.{Bool, true, false}
-use mathlib.Core.List.{List, [], _∷_}
-use lib.ListN.{length, getD, set, length-set, List·getD-eq-default}
+use mathlib.Core.List.{List, []}
+use lib.ListN.{length, length-set, List·getD-eq-default}
 use lib.Seq.{getD-set-same, getD-set-other}
 use lib.Dec.{eqb}
 use Rattle.judge.specs.Discipline.{atomicityOf}
 use Rattle.judge.specs.declared.lock_set.LockSet.{LockSet}
 use Rattle.machine.specs.State.{State, codeOf, threadOf, fresh}
 use Rattle.machine.specs.Step.{Access, none, reads, writes, takes, gives, accessOf, waits, valueRead, locksAfter, placeAfter, threadAfter, instructionOf, moveBy, outcome}
-use Rattle.machine.specs.declared.thread.Outcome.{Outcome}
 use Rattle.machine.specs.declared.thread.Outcome.the-variants.{Moved, Waiting, Idle}
 use Rattle.machine.specs.declared.thread.Thread.{Thread}
 use Rattle.program.specs.Choice.{choose}
 use Rattle.program.specs.Layout.{Program}
 use Rattle.program.specs.declared.instruction.Instruction.{Instruction}
-use Rattle.program.specs.declared.instruction.Instruction.the-variants.{End}
-use Rattle.soundness.specs.Access.{Permitted, TakesBelow, Owns, setAfter}
+use Rattle.soundness.specs.Access.{Permitted, TakesBelow, Owns}
 use Rattle.soundness.specs.Annotation.{Row, Follows}
 use Rattle.soundness.specs.Instance.{nextInstruction, nextAccess, nextMover, Annotated, placeOf, rowOf, Invariant}
 use Rattle.soundness.specs.Naming.{Named, moved, movedNamed}

@@ -1,7 +1,7 @@
 -- Laws of prefixes: how they grow along a block, and what a move's ends say of its atomicity. Assumes nothing.
 use Prim.Native.Nat.{ℕ}
 use native.Mathlib.Omega.{arith}
-use mathlib.Core.Path.{_≡_, refl, sym, ap, _∙_, subst}
+use mathlib.Core.Path.{_≡_, refl, sym, ap, subst}
 use mathlib.Core.Logic.{_≢_}
 use mathlib.Core.Bool.{Bool, true, false}
 use lib.Dec.{T}
@@ -10,7 +10,7 @@ use Rattle.atomicity.specs.Atomicity.{composition, join, closure, atMost}
 use Rattle.atomicity.specs.declared.Atomicity.{Atomicity}
 use Rattle.atomicity.specs.declared.Atomicity.the-variants.{Both, Left, Right, Atomic, Top}
 use Rattle.program.specs.Choice.{choose}
-use Rattle.reduction.specs.Moves.{Status, outside, beforeCommit, afterCommit}
+use Rattle.reduction.specs.Moves.{outside, beforeCommit, afterCommit}
 use Rattle.soundness.specs.Prefix.{Prefix, outer, inner, statusOf, isInner, behind, entered, Below, below-outer, below-inner, Proper, proper-outer, proper-inner, Goes, stays, enters, leaves, goes-on}
 
 -- ---- two more laws of the atomicities

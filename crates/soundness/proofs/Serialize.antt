@@ -1,31 +1,29 @@
 -- Demand 3 for every program whose threads' code is annotated (`serialized`). Assumes nothing.
-use Prim.Native.Nat.{ℕ, zero, suc, _+_, _≤_, _<_}
+use Prim.Native.Nat.{ℕ, _+_, _≤_, _<_}
 use native.Mathlib.Decide.{decLt}
-use native.Mathlib.Nat.{zero-add}
 use native.Mathlib.Omega.{arith}
-use mathlib.Core.Path.{_≡_, refl, sym, ap, _∙_, subst, subst₂}
+use mathlib.Core.Path.{_≡_, refl, sym, ap, _∙_, subst}
 use mathlib.Core.Logic.{dite}
-use mathlib.Core.Bool.{Bool, true, false}
-use mathlib.Core.List.{List, [], _∷_, map}
-use lib.ListN.{length, getD, replicate, length-map, length-replicate, getD-replicate, List·getD-map, List·getD-eq-default}
+use mathlib.Core.Bool.{false}
+use mathlib.Core.List.{List, [], map}
+use lib.ListN.{length, replicate, length-map, length-replicate, getD-replicate, List·getD-map, List·getD-eq-default}
 use Rattle.judge.specs.LockSet.{empty, holds, lockLimit}
 use Rattle.judge.specs.declared.lock_set.LockSet.{LockSet}
 use Rattle.machine.specs.Block.{coveredFrom, inside, NobodyInside, Uninterrupted}
-use Rattle.machine.specs.Run.{Counts, Run, run, runFrom}
+use Rattle.machine.specs.Run.{Counts, run}
 use Rattle.machine.specs.State.{State, codeOf, threadOf, start, fresh}
 use Rattle.machine.specs.declared.thread.Thread.{Thread}
 use Rattle.program.specs.Layout.{Program, CodeSection}
 use Rattle.program.specs.declared.instruction.Instruction.{Instruction}
 use Rattle.reduction.specs.Moves.{outside}
-use Rattle.reduction.specs.Reduction.{Quiescent, Reduced}
+use Rattle.reduction.specs.Reduction.{Quiescent}
 use Rattle.reduction.proofs.Reduction.{reduction, same-length, same-precedence}
 use Rattle.soundness.specs.Access.{Owns}
 use Rattle.soundness.specs.Annotation.{Row}
-use Rattle.soundness.specs.Instance.{Annotated, placeOf, rowOf, Invariant, machineMoves}
+use Rattle.soundness.specs.Instance.{Annotated, rowOf, Invariant, machineMoves}
 use Rattle.soundness.specs.Naming.{Move, Named, namedStart, moves}
 use Rattle.soundness.specs.Order.{movesOf, Precedes, SerializedInOrder}
 use Rattle.soundness.specs.Prefix.{Prefix, outer, statusOf, Below, below-outer}
-use Rattle.soundness.specs.Traced.{runOf, Traced, Listed}
 use Rattle.soundness.proofs.Instance.{inside-row, machine-movers}
 use Rattle.soundness.proofs.Prefix.{outer-outside}
 use Rattle.soundness.proofs.Traced.{traced, listed}

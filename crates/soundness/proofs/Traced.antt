@@ -1,25 +1,21 @@
 -- A list of thread numbers is a trace of the machine, and an uninterrupted trace is an uninterrupted list. Assumes nothing.
-use Prim.Native.Nat.{ℕ, zero, suc, _+_, _≤_, _<_}
+use Prim.Native.Nat.{ℕ, zero, suc, _+_, _<_}
 use native.Mathlib.Nat.{add-zero}
 use native.Mathlib.Omega.{arith}
 use mathlib.Core.Path.{_≡_, refl, sym, ap, _∙_, subst}
-use mathlib.Core.Logic.{_≢_}
-use mathlib.Core.Bool.{Bool, true, false}
 use mathlib.Core.List.{List, [], _∷_, map}
 use lib.ListN.{length}
-use Rattle.machine.specs.Block.{inside, OthersOutside, UninterruptedFrom}
+use Rattle.machine.specs.Block.{OthersOutside, UninterruptedFrom}
 use Rattle.machine.specs.Run.{Counts, Run, counted, runFrom}
 use Rattle.machine.specs.State.{State}
-use Rattle.machine.specs.Step.{instructionOf, moveBy, outcome, after, step}
+use Rattle.machine.specs.Step.{outcome, after, step}
 use Rattle.machine.specs.declared.thread.Outcome.{Outcome}
 use Rattle.machine.specs.declared.thread.Outcome.the-variants.{Moved, Waiting, Idle}
 use Rattle.program.specs.Layout.{Program}
-use Rattle.reduction.specs.Moves.{outside}
 use Rattle.reduction.specs.Reduction.{Trace, trace-nil, trace-cons, Uninterrupted, alone-nil, alone-cons, Alone}
 use Rattle.soundness.specs.Demand.{ThreadsOf}
-use Rattle.soundness.specs.Instance.{Annotated, Invariant, Moving, machineMoves, rowOf}
+use Rattle.soundness.specs.Instance.{Annotated, Invariant, machineMoves, rowOf}
 use Rattle.soundness.specs.Naming.{Move, Named, moveOf, moved, movedNamed, afterNamed, alsoMoved, movesFrom}
-use Rattle.soundness.specs.Prefix.{statusOf}
 use Rattle.soundness.specs.Traced.{runOf, Traced, Listed}
 use Rattle.soundness.proofs.Instance.{inside-row}
 use Rattle.soundness.proofs.Move.{in-program, invariant-moved}

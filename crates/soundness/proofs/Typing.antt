@@ -1,24 +1,24 @@
 -- Judging finds a derivation. Assumes nothing.
 use Prim.Native.Nat.{ℕ, _+_, _*_}
 use native.Mathlib.Omega.{arith}
-use mathlib.Core.Path.{_≡_, refl, sym, ap, _∙_, subst}
+use mathlib.Core.Path.{_≡_, refl, sym, ap, subst}
 use mathlib.Core.Logic.{_≢_}
 use mathlib.Core.Bool.{Bool, true, false, not, false≢true}
 use mathlib.Core.List.{List, [], _∷_}
 use lib.Dec.{eqb}
-use Rattle.atomicity.specs.Atomicity.{composition, join, closure, reportByte}
+use Rattle.atomicity.specs.Atomicity.{reportByte}
 use Rattle.atomicity.specs.declared.Atomicity.{Atomicity}
-use Rattle.atomicity.specs.declared.Atomicity.the-variants.{Both, Top}
-use Rattle.judge.specs.Discipline.{locksAfter, atomicityOf}
+use Rattle.atomicity.specs.declared.Atomicity.the-variants.{Top}
+use Rattle.judge.specs.Discipline.{locksAfter}
 use Rattle.judge.specs.Judging.{Judged, isTop, judge}
 use Rattle.judge.specs.LockSet.{sameFlag, sameFlags, same}
 use Rattle.judge.specs.declared.lock_set.LockSet.{LockSet}
-use Rattle.program.specs.Choice.{Answer, fine, refused, choose, require, _>>=_}
+use Rattle.program.specs.Choice.{Answer, fine, refused, require, _>>=_}
 use Rattle.program.specs.Code.{Code, done, plain, choice, loop, block, size}
 use Rattle.program.specs.Layout.{Program}
 use Rattle.program.specs.WellFormed.{WellFormed}
 use Rattle.program.specs.declared.refusal.Refusal.{Refusal}
-use Rattle.soundness.specs.Typing.{Legal, Typed, typed-done, typed-plain, typed-choice, typed-loop, typed-block}
+use Rattle.soundness.specs.Typing.{Typed, typed-done, typed-plain, typed-choice, typed-loop, typed-block}
 
 -- ---- an answer that is fine
 

@@ -3,12 +3,12 @@
 use Prim.Native.Nat.{ℕ, suc, _+_, _≤_, _<_}
 use mathlib.Core.Path.{_≡_}
 use mathlib.Core.List.{List, [], _∷_, _++_}
-use Rattle.atomicity.specs.Atomicity.{composition, join, closure}
+use Rattle.atomicity.specs.Atomicity.{join, closure}
 use Rattle.atomicity.specs.declared.Atomicity.{Atomicity}
 use Rattle.judge.specs.Discipline.{atomicityOf}
 use Rattle.judge.specs.declared.lock_set.LockSet.{LockSet}
 use Rattle.machine.specs.Step.{placeAfter}
-use Rattle.program.specs.Code.{Code, done, plain, choice, loop, block, size}
+use Rattle.program.specs.Code.{Code, size}
 use Rattle.program.specs.Layout.{Program}
 use Rattle.program.specs.declared.instruction.Instruction.{Instruction}
 use Rattle.program.specs.declared.instruction.Instruction.the-variants.{If, Else, While, Again, Atomic, End}

@@ -2,7 +2,6 @@
 -- each thread holds the locks that its place says. Only the proof of demand 3 speaks of it.
 use Prim.Native.Nat.{ℕ, _≤_, _<_}
 use mathlib.Core.Path.{_≡_}
-use mathlib.Core.List.{List}
 use lib.ListN.{length, getD}
 use Rattle.atomicity.specs.declared.Atomicity.{Atomicity}
 use Rattle.judge.specs.Discipline.{atomicityOf}

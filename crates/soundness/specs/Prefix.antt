@@ -1,7 +1,5 @@
 -- Where a place stands in its thread's code: outside every block, or inside an outermost block, of which what comes before the place
 -- has some atomicity (the prefix). Only the proof of demand 3 speaks of it.
-use Prim.Native.Nat.{ℕ}
-use mathlib.Core.Path.{_≡_}
 use mathlib.Core.Logic.{_≢_}
 use mathlib.Core.Bool.{Bool, true, false}
 use lib.Dec.{T}
