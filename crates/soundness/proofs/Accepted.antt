@@ -63,12 +63,12 @@ takes-good k v End h = tt
 takes-at : (locks variables : ℕ) (s : List ℕ) (n at : ℕ) → TakesGood locks (instructionsAt locks variables s n at)
 takes-at locks variables s n at q = dite (decLt q n)
     (λ (h : q < n).
-      subst (λ (i : Instruction). TakesBelow locks (accessOf i)) (sym (getD-instructions locks variables s n at q h))
-      (takes-good locks variables (instructionOf (decodeAt locks variables s (at + 4 * q))) (instruction-fields locks variables s (at + 4 * q))))
+    subst (λ (i : Instruction). TakesBelow locks (accessOf i)) (sym (getD-instructions locks variables s n at q h))
+    (takes-good locks variables (instructionOf (decodeAt locks variables s (at + 4 * q))) (instruction-fields locks variables s (at + 4 * q))))
     (λ (k : ¬ (q < n)).
-      let out : length (instructionsAt locks variables s n at) ≤ q = omega (arith, length-instructions locks variables s n at) in
-      subst (λ (i : Instruction). TakesBelow locks (accessOf i)) (sym (List·getD-eq-default (instructionsAt locks variables s n at) End out))
-      (takes-good locks variables End tt))
+    let out : length (instructionsAt locks variables s n at) ≤ q = omega (arith, length-instructions locks variables s n at) in
+    subst (λ (i : Instruction). TakesBelow locks (accessOf i)) (sym (List·getD-eq-default (instructionsAt locks variables s n at) End out))
+    (takes-good locks variables End tt))
 
 writes-nothing : Writes [] (structured [])
 unfolding firstBroken atCodeEnd
@@ -76,14 +76,14 @@ writes-nothing = nested-flat [] refl
 
 pub sound-nested : (s : List ℕ) (l : Layout) → SoundFile s l → WellNested (programOf s l)
 unfolding programOf codeOf
-sound-nested s l h = record
-  { writes = λ t. section-code (λ (is : List Instruction). Writes is (structured is)) writes-nothing s (l .locks) (l .variables)
+sound-nested s l h = record {
+  writes = λ t. section-code (λ (is : List Instruction). Writes is (structured is)) writes-nothing s (l .locks) (l .variables)
       (λ at x. nested-flat (instructionsAt (l .locks) (l .variables) s (countAt s at) (at + 2)) (x .nested))
-      (l .threads) (5 + 6 * l .variables) (l .instructions) (h .sections) t
-  ; takes = λ t. section-code (TakesGood (l .locks)) (λ q. takes-good (l .locks) (l .variables) End tt) s (l .locks) (l .variables)
+      (l .threads) (5 + 6 * l .variables) (l .instructions) (h .sections) t;
+  takes = λ t. section-code (TakesGood (l .locks)) (λ q. takes-good (l .locks) (l .variables) End tt) s (l .locks) (l .variables)
       (λ at x. takes-at (l .locks) (l .variables) s (countAt s at) (at + 2))
-      (l .threads) (5 + 6 * l .variables) (l .instructions) (h .sections) t
-  }
+      (l .threads) (5 + 6 * l .variables) (l .instructions) (h .sections) t;
+}
 
 -- ---- from judging: derivations
 

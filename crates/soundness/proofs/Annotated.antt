@@ -51,19 +51,19 @@ module _ (p : Program) (t : ℕ) {c : Code} {s : LockSet} {a : Atomicity} (d : T
   row-covered q h = dite (decLt q (size c))
       (λ (l : q < size c). coverage rowAt d 0 (size c) (zero-add (size c)) (reads-list past (rows d outer)) q (omega arith) l)
       (λ (n : ¬ (q < size c)).
-        let here : size c ≡ q = omega arith in
-        covered-past d 0 q (omega arith)
-        ∙ sym (ap (λ (k : ℕ). isInner (rowAt k .prefix)) (sym here) ∙ ap (λ (r : Row). isInner (r .prefix)) row-past))
+      let here : size c ≡ q = omega arith in
+      covered-past d 0 q (omega arith)
+      ∙ sym (ap (λ (k : ℕ). isInner (rowAt k .prefix)) (sym here) ∙ ap (λ (r : Row). isInner (r .prefix)) row-past))
 
   pub annotated : flat c ≡ codeOf p t → ((q : ℕ) → TakesBelow (p .locks) (accessOf (getD (codeOf p t) q End))) → Annotated p t
-  annotated e b = record
-    { rowAt = rowAt
-    ; same-code = λ q h. row-code q ∙ ap (λ (l : List Instruction). getD l q End) e
-    ; begun = whole .begun
-    ; flows = λ q h. subst (λ (n : ℕ). Flows p t rowAt n q) size-code (whole .moves q (omega arith) (omega (arith, size-code)))
-    ; covered = λ q h. subst (λ (l : List Instruction). coveredFrom 0 l q ≡ isInner (rowAt q .prefix)) e (row-covered q (omega (arith, size-code)))
-    ; takes-below = λ q h. b q
-    }
+  annotated e b = record {
+    rowAt = rowAt;
+    same-code = λ q h. row-code q ∙ ap (λ (l : List Instruction). getD l q End) e;
+    begun = whole .begun;
+    flows = λ q h. subst (λ (n : ℕ). Flows p t rowAt n q) size-code (whole .moves q (omega arith) (omega (arith, size-code)));
+    covered = λ q h. subst (λ (l : List Instruction). coveredFrom 0 l q ≡ isInner (rowAt q .prefix)) e (row-covered q (omega (arith, size-code)));
+    takes-below = λ q h. b q;
+  }
     where
       size-code : size c ≡ length (codeOf p t)
       size-code = sym (length-flat c) ∙ ap (λ (l : List Instruction). length l) e

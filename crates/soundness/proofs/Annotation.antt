@@ -125,9 +125,9 @@ module _ {p : Program} {t : ℕ} where
         (d₁ : Typed p t s a s′ x) (d₂ : Typed p t s b s′ y) (d : Typed p t s′ c s″ z)
         → Reads h w (rows (typed-choice {r = g} d₁ d₂ d) m)
         → (h w ≡ row (If g (size a + 1)) s m → Reads h (suc w) (rows d₁ m)
-          → h (suc w + size a) ≡ row (Else (size b + 1)) s′ (behind m x) → Reads h (suc (suc w + size a)) (rows d₂ m)
-          → h (suc (suc w + size a) + size b) ≡ row End s′ (behind m (join x y))
-          → Reads h (suc (suc (suc w + size a) + size b)) (rows d (behind m (join x y))) → C)
+        → h (suc w + size a) ≡ row (Else (size b + 1)) s′ (behind m x) → Reads h (suc (suc w + size a)) (rows d₂ m)
+        → h (suc (suc w + size a) + size b) ≡ row End s′ (behind m (join x y))
+        → Reads h (suc (suc (suc w + size a) + size b)) (rows d (behind m (join x y))) → C)
         → C
     unfolding rows
     reads-choice d₁ d₂ d (reads-cons h₀ r) go =
@@ -138,8 +138,8 @@ module _ {p : Program} {t : ℕ} where
     pub reads-loop : {g : ℕ} {a c : Code} {s s″ : LockSet} {x z : Atomicity} (d₁ : Typed p t s a s x) (d : Typed p t s c s″ z)
         → Reads h w (rows (typed-loop {r = g} d₁ d) m)
         → (h w ≡ row (While g (size a + 1)) s (behind m (closure x)) → Reads h (suc w) (rows d₁ (behind m (closure x)))
-          → h (suc w + size a) ≡ row (Again (size a + 1)) s (behind (behind m (closure x)) x)
-          → Reads h (suc (suc w + size a)) (rows d (behind m (closure x))) → C)
+        → h (suc w + size a) ≡ row (Again (size a + 1)) s (behind (behind m (closure x)) x)
+        → Reads h (suc (suc w + size a)) (rows d (behind m (closure x))) → C)
         → C
     unfolding rows
     reads-loop {x} d₁ d (reads-cons h₀ r) go =
@@ -149,7 +149,7 @@ module _ {p : Program} {t : ℕ} where
     pub reads-block : {a c : Code} {s s′ s″ : LockSet} {x z : Atomicity} (d₁ : Typed p t s a s′ x) (n : x ≢ Top) (d : Typed p t s′ c s″ z)
         → Reads h w (rows (typed-block d₁ n d) m)
         → (h w ≡ row (Atomic (size a + 1)) s m → Reads h (suc w) (rows d₁ (entered m))
-          → h (suc w + size a) ≡ row End s′ (behind (entered m) x) → Reads h (suc (suc w + size a)) (rows d (behind m x)) → C)
+        → h (suc w + size a) ≡ row End s′ (behind (entered m) x) → Reads h (suc (suc w + size a)) (rows d (behind m x)) → C)
         → C
     unfolding rows
     reads-block d₁ n d (reads-cons h₀ r) go =

@@ -38,13 +38,13 @@ moveBy-comm i j {t} {u} s n d =
     let one = moveBy i t s in
     let two = moveBy j u s in
     let variables =
-          ap (λ (th : Thread). variablesAfter (accessOf j) (th .registers) (one .variables)) (thread-other i t s u (Ne·symm n))
-          ∙ d .variables (threadOf s t .registers) (threadOf s u .registers) (s .variables)
-          ∙ sym (ap (λ (th : Thread). variablesAfter (accessOf i) (th .registers) (two .variables)) (thread-other j u s t n)) in
+    ap (λ (th : Thread). variablesAfter (accessOf j) (th .registers) (one .variables)) (thread-other i t s u (Ne·symm n))
+    ∙ d .variables (threadOf s t .registers) (threadOf s u .registers) (s .variables)
+    ∙ sym (ap (λ (th : Thread). variablesAfter (accessOf i) (th .registers) (two .variables)) (thread-other j u s t n)) in
     let threads =
-          ap (set (one .threads) u) (mover-second i j s n d)
-          ∙ set-comm (s .threads) t u (mover i t s) (mover j u s) n
-          ∙ sym (ap (set (two .threads) t) (mover-first i j s n d)) in
+    ap (set (one .threads) u) (mover-second i j s n d)
+    ∙ set-comm (s .threads) t u (mover i t s) (mover j u s) n
+    ∙ sym (ap (set (two .threads) t) (mover-first i j s n d)) in
     λ k. record { variables = variables k; locks = d .locks t u (s .locks) k; threads = threads k }
 
 -- whether the other thread can move stays the same
@@ -81,7 +81,7 @@ block-other p g t u n = ap (λ (k : ℕ). record { thread = u; number = k }) (ge
 -- the count of the thread that moves later is as if it moved at once
 finished-later : (p : Program) (g : Named) {t u : ℕ} → t ≢ u → moved p u (moved p t (g .machine)) ≡ moved p t (moved p u (g .machine))
     → finishedAfter (inside p (moved p u (moved p t (g .machine))) u) (getD (movedNamed p t g .finished) u 0)
-      ≡ finishedAfter (inside p (moved p u (g .machine)) u) (getD (g .finished) u 0)
+    ≡ finishedAfter (inside p (moved p u (g .machine)) u) (getD (g .finished) u 0)
 unfolding moved movedNamed
 finished-later p g {t} {u} n e =
     let two = moved p u (g .machine) in
@@ -108,7 +108,7 @@ module _ (p : Program) (g : Named) {t u : ℕ} (n : t ≢ u)
       let x = finishedAfter (inside p (moved p t (g .machine)) t) (getD F t 0) in
       let y = finishedAfter (inside p (moved p u (g .machine)) u) (getD F u 0) in
       let finished =
-            ap (set (set F t x) u) (finished-later p g n moved-comm)
-            ∙ set-comm F t u x y n
-            ∙ sym (ap (set (set F u y) t) (finished-later p g (Ne·symm n) (sym moved-comm))) in
+      ap (set (set F t x) u) (finished-later p g n moved-comm)
+      ∙ set-comm F t u x y n
+      ∙ sym (ap (set (set F u y) t) (finished-later p g (Ne·symm n) (sym moved-comm))) in
       λ k. record { machine = moved-comm k; finished = finished k }

@@ -104,7 +104,7 @@ covered-plain i c w q e = ap (λ (f : Form). covers w f q || coveredFrom (suc w)
 
 covered-choice : (r : ℕ) (a b c : Code) (w q : ℕ) → coveredFrom w (flat (choice r a b c)) q
     ≡ (coveredFrom (suc w) (flat a) q
-      || (coveredFrom (suc (suc w + size a)) (flat b) q || coveredFrom (suc (suc (suc w + size a) + size b)) (flat c) q))
+    || (coveredFrom (suc (suc w + size a)) (flat b) q || coveredFrom (suc (suc (suc w + size a) + size b)) (flat c) q))
 unfolding flat coveredFrom covers formOf
 covered-choice r a b c w q =
     covered-behind a _ (suc w) q
@@ -146,14 +146,14 @@ module _ {p : Program} {t : ℕ} where
   covered-past (typed-choice {r} {a} {b} {c} d₁ d₂ d) w q h =
       covered-choice r a b c w q
       ∙ or-false _ _ (covered-past d₁ (suc w) q (omega arith))
-        (or-false _ _ (covered-past d₂ (suc (suc w + size a)) q (omega arith))
-          (covered-past d (suc (suc (suc w + size a) + size b)) q (omega arith)))
+      (or-false _ _ (covered-past d₂ (suc (suc w + size a)) q (omega arith))
+      (covered-past d (suc (suc (suc w + size a) + size b)) q (omega arith)))
   covered-past (typed-loop {r} {a} {c} d₁ d) w q h =
       covered-loop r a c w q ∙ or-false _ _ (covered-past d₁ (suc w) q (omega arith)) (covered-past d (suc (suc w + size a)) q (omega arith))
   covered-past (typed-block {a} {c} d₁ n d) w q h =
       covered-block a c w q
       ∙ or-false _ _ (covers-past w (size a + 1) q (omega arith))
-        (or-false _ _ (covered-past d₁ (suc w) q (omega arith)) (covered-past d (suc (suc w + size a)) q (omega arith)))
+      (or-false _ _ (covered-past d₁ (suc w) q (omega arith)) (covered-past d (suc (suc w + size a)) q (omega arith)))
 
   -- inside a block every place is inside
   all-inner : {s s′ : LockSet} {c : Code} {a : Atomicity} (d : Typed p t s c s′ a) (x : Atomicity)
@@ -169,7 +169,6 @@ module _ {p : Program} {t : ℕ} where
       all-cons refl (all-append (all-inner d₁ (composition x (closure y))) (all-cons refl (all-inner d (composition x (closure y)))))
   all-inner (typed-block {x = y} d₁ n d) x =
       all-cons refl (all-append (all-inner d₁ x) (all-cons refl (all-inner d (composition x y))))
-
 
   -- what the code from place w on covers up to place v, its rows say
   pub coverage : (h : ℕ → Row) {s s′ : LockSet} {c : Code} {a : Atomicity} (d : Typed p t s c s′ a) (w v : ℕ) → w + size c ≡ v
@@ -189,25 +188,25 @@ module _ {p : Program} {t : ℕ} where
       span-join P (span-one P w (agrees-start h (choice reg a b c) h₀))
       (span-join P
       (λ q k l. covered-choice reg a b c w q
-        ∙ or-left _ _ (or-false _ _ (covered-before (flat b) (suc w₁) q (omega arith)) (covered-before (flat c) (suc w₂) q (omega arith)))
-        ∙ coverage h d₁ (suc w) w₁ refl r₁ q k l)
+      ∙ or-left _ _ (or-false _ _ (covered-before (flat b) (suc w₁) q (omega arith)) (covered-before (flat c) (suc w₂) q (omega arith)))
+      ∙ coverage h d₁ (suc w) w₁ refl r₁ q k l)
       (span-join P
       (span-one P w₁ (agrees-outer h w₁ _ h₁ (covered-choice reg a b c w w₁
-        ∙ or-false _ _ (covered-past d₁ (suc w) w₁ (omega arith))
-          (or-false _ _ (covered-before (flat b) (suc w₁) w₁ (omega arith)) (covered-before (flat c) (suc w₂) w₁ (omega arith))))))
+      ∙ or-false _ _ (covered-past d₁ (suc w) w₁ (omega arith))
+      (or-false _ _ (covered-before (flat b) (suc w₁) w₁ (omega arith)) (covered-before (flat c) (suc w₂) w₁ (omega arith))))))
       (span-join P
       (λ q k l. covered-choice reg a b c w q
-        ∙ or-right _ _ (covered-past d₁ (suc w) q (omega arith))
-        ∙ or-left _ _ (covered-before (flat c) (suc w₂) q (omega arith))
-        ∙ coverage h d₂ (suc w₁) w₂ refl r₂ q k l)
+      ∙ or-right _ _ (covered-past d₁ (suc w) q (omega arith))
+      ∙ or-left _ _ (covered-before (flat c) (suc w₂) q (omega arith))
+      ∙ coverage h d₂ (suc w₁) w₂ refl r₂ q k l)
       (span-join P
       (span-one P w₂ (agrees-outer h w₂ _ h₂ (covered-choice reg a b c w w₂
-        ∙ or-false _ _ (covered-past d₁ (suc w) w₂ (omega arith))
-          (or-false _ _ (covered-past d₂ (suc w₁) w₂ (omega arith)) (covered-before (flat c) (suc w₂) w₂ (omega arith))))))
+      ∙ or-false _ _ (covered-past d₁ (suc w) w₂ (omega arith))
+      (or-false _ _ (covered-past d₂ (suc w₁) w₂ (omega arith)) (covered-before (flat c) (suc w₂) w₂ (omega arith))))))
       (λ q k l. covered-choice reg a b c w q
-        ∙ or-right _ _ (covered-past d₁ (suc w) q (omega arith))
-        ∙ or-right _ _ (covered-past d₂ (suc w₁) q (omega arith))
-        ∙ coverage h d (suc w₂) v (omega arith) r₃ q k l)))))
+      ∙ or-right _ _ (covered-past d₁ (suc w) q (omega arith))
+      ∙ or-right _ _ (covered-past d₂ (suc w₁) q (omega arith))
+      ∙ coverage h d (suc w₂) v (omega arith) r₃ q k l)))))
   coverage h (typed-loop {r = reg} {a} {c} d₁ d) w v e r =
       let P = Agrees h (loop reg a c) w in
       let w₁ = suc w + size a in
@@ -215,29 +214,29 @@ module _ {p : Program} {t : ℕ} where
       span-join P (span-one P w (agrees-start h (loop reg a c) h₀))
       (span-join P
       (λ q k l. covered-loop reg a c w q
-        ∙ or-left _ _ (covered-before (flat c) (suc w₁) q (omega arith))
-        ∙ coverage h d₁ (suc w) w₁ refl r₁ q k l)
+      ∙ or-left _ _ (covered-before (flat c) (suc w₁) q (omega arith))
+      ∙ coverage h d₁ (suc w) w₁ refl r₁ q k l)
       (span-join P
       (span-one P w₁ (agrees-outer h w₁ _ h₁ (covered-loop reg a c w w₁
-        ∙ or-false _ _ (covered-past d₁ (suc w) w₁ (omega arith)) (covered-before (flat c) (suc w₁) w₁ (omega arith)))))
+      ∙ or-false _ _ (covered-past d₁ (suc w) w₁ (omega arith)) (covered-before (flat c) (suc w₁) w₁ (omega arith)))))
       (λ q k l. covered-loop reg a c w q
-        ∙ or-right _ _ (covered-past d₁ (suc w) q (omega arith))
-        ∙ coverage h d (suc w₁) v (omega arith) r₂ q k l)))
+      ∙ or-right _ _ (covered-past d₁ (suc w) q (omega arith))
+      ∙ coverage h d (suc w₁) v (omega arith) r₂ q k l)))
   coverage h (typed-block {a} {c} d₁ n d) w v e r =
       let P = Agrees h (block a c) w in
       let Q : ℕ → Type 0 = λ q. isInner (h q .prefix) ≡ true in
       let w₁ = suc w + size a in
       reads-block outer d₁ n d r λ h₀ r₁ h₁ r₂.
       let body : Span Q (suc w) w₁ =
-            subst (λ (n : ℕ). Span Q (suc w) (suc w + n)) (length-rows d₁ (inner Both))
-            (reads-all (λ (r : Row). isInner (r .prefix) ≡ true) r₁ (all-inner d₁ Both)) in
+      subst (λ (n : ℕ). Span Q (suc w) (suc w + n)) (length-rows d₁ (inner Both))
+      (reads-all (λ (r : Row). isInner (r .prefix) ≡ true) r₁ (all-inner d₁ Both)) in
       let end : Q w₁ = ap (λ (r : Row). isInner (r .prefix)) h₁ in
       span-join P (span-one P w (agrees-start h (block a c) h₀))
       (span-join P
       (λ q k l. covered-block a c w q
-        ∙ or-true _ _ (covers-inside w (size a + 1) q k (omega arith))
-        ∙ sym (span-join Q body (span-one Q w₁ end) q k l))
+      ∙ or-true _ _ (covers-inside w (size a + 1) q k (omega arith))
+      ∙ sym (span-join Q body (span-one Q w₁ end) q k l))
       (λ q k l. covered-block a c w q
-        ∙ or-right _ _ (covers-past w (size a + 1) q (omega arith))
-        ∙ or-right _ _ (covered-past d₁ (suc w) q (omega arith))
-        ∙ coverage h d (suc w₁) v (omega arith) r₂ q k l))
+      ∙ or-right _ _ (covers-past w (size a + 1) q (omega arith))
+      ∙ or-right _ _ (covered-past d₁ (suc w) q (omega arith))
+      ∙ coverage h d (suc w₁) v (omega arith) r₂ q k l))

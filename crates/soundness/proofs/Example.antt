@@ -75,13 +75,13 @@ unfolding definitions
 adders-uninterrupted h = let e : true ≡ false = h .2 .1 0 (lit< tt) (λ e. omega arith) in let z : _≡_ {A = ℕ} 0 1 = cc in omega arith
 
 pub adders-interrupted : Interrupted adders interleaving
-adders-interrupted = record
-  { answer = acceptedOf (accept adders)
-  ; accepted = adders-accepted
-  ; threads = adders-threads
-  ; nobody = adders-nobody
-  ; interrupted = adders-uninterrupted
-  }
+adders-interrupted = record {
+  answer = acceptedOf (accept adders);
+  accepted = adders-accepted;
+  threads = adders-threads;
+  nobody = adders-nobody;
+  interrupted = adders-uninterrupted;
+}
 
 -- the list that demand 3 promises is another
 pub adders-serialized : (r : Serialized (adders-interrupted .answer .program) interleaving) → r .serial ≢ interleaving

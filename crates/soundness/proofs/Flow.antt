@@ -63,10 +63,10 @@ module _ (p : Program) (t : ℕ) where
   -- an opener or closer that goes on in the same block is B
   silent : (i : Instruction) {s : LockSet} {m : Prefix} {to : Row} → locksAfter p t 0 i s ≡ fine s → atomicityOf p t i ≡ Both
       → Leads s m to → Proper m → Follows p t (row i s m) to
-  silent i {m} l e k h = record
-    { legal = keeps i l (k .same)
-    ; goes = rw e (goes-behind m (rw (behind-both m) (k .below)) (rw (behind-both m) h))
-    }
+  silent i {m} l e k h = record {
+    legal = keeps i l (k .same);
+    goes = rw e (goes-behind m (rw (behind-both m) (k .below)) (rw (behind-both m) h));
+  }
 
   module _ (h : ℕ → Row) (last : ℕ) where
     -- the move arrives at a place of the code, and the row there follows
@@ -105,10 +105,10 @@ module _ (p : Program) (t : ℕ) where
         → Proper (behind m (atomicityOf p t i)) → w < last → Code-at s′ (behind m (atomicityOf p t i)) (suc w) v → Code-at s m w v
     plain-part {i} {s} {m} {w} f l h₁ proper b rest =
         let follows : Follows p t (row i s m) (h (suc w)) =
-              record { legal = subst (Legal p t i s) (rest .begun .same) l; goes = goes-behind m (rest .begun .below) proper } in
-        record
-        { begun = leads-at h₁ (below-refl m)
-        ; moves = move w h₁ (λ r. arrives-at (omega (arith, plain-next i f r w)) follows b) then rest .moves
+        record { legal = subst (Legal p t i s) (rest .begun .same) l; goes = goes-behind m (rest .begun .below) proper } in
+        record {
+          begun = leads-at h₁ (below-refl m);
+          moves = move w h₁ (λ r. arrives-at (omega (arith, plain-next i f r w)) follows b) then rest .moves;
         }
 
     choice-part : {r n k : ℕ} {s s′ : LockSet} {m : Prefix} (x y : Atomicity) {w e f v : ℕ}
@@ -120,17 +120,17 @@ module _ (p : Program) (t : ℕ) where
     choice-part {r} {n} {k} {m} x y {w} {e} {f} h₁ e₁ first h₂ e₂ second h₃ b rest proper =
         let proper₁ = proper-below (below-first m x y) proper in
         let proper₀ = proper-below (below-behind m x) proper₁ in
-        record
-        { begun = leads-at h₁ (below-refl m)
-        ; moves =
-            move w h₁ (λ g. branches (Arrives _) g r n w
+        record {
+          begun = leads-at h₁ (below-refl m);
+          moves =
+              move w h₁ (λ g. branches (Arrives _) g r n w
               (arrives-at (omega arith) (silent (If r n) refl refl (second .begun) proper₀) (omega arith))
               (arrives-at (omega arith) (silent (If r n) refl refl (first .begun) proper₀) (omega arith)))
-            then first .moves
-            then move e h₂ (λ g. arrives-at (sym e₂) (silent (Else k) refl refl (leads-at h₃ (below-first m x y)) proper₁) (omega arith))
-            then second .moves
-            then move f h₃ (λ g. arrives-at (omega arith) (silent End refl refl (rest .begun) proper) b)
-            then rest .moves
+              then first .moves
+              then move e h₂ (λ g. arrives-at (sym e₂) (silent (Else k) refl refl (leads-at h₃ (below-first m x y)) proper₁) (omega arith))
+              then second .moves
+              then move f h₃ (λ g. arrives-at (omega arith) (silent End refl refl (rest .begun) proper) b)
+              then rest .moves;
         }
 
     loop-part : {r n : ℕ} {s : LockSet} (m : Prefix) (x : Atomicity) {w e v : ℕ}
@@ -138,17 +138,17 @@ module _ (p : Program) (t : ℕ) where
         → h e ≡ row (Again n) s (behind (behind m (closure x)) x) → e < last → Code-at s (behind m (closure x)) (suc e) v
         → Proper (behind m (closure x)) → Code-at s m w v
     unfolding placeAfter locksAfter atomicityOf
-    loop-part {r} {n} m x {w} {e} h₁ e₁ body h₂ b rest proper = record
-      { begun = leads-at h₁ (below-behind m (closure x))
-      ; moves =
+    loop-part {r} {n} m x {w} {e} h₁ e₁ body h₂ b rest proper = record {
+      begun = leads-at h₁ (below-behind m (closure x));
+      moves =
           move w h₁ (λ g. branches (Arrives _) g r n w
-            (arrives-at (omega arith) (silent (While r n) refl refl (rest .begun) proper) b)
-            (arrives-at (omega arith) (silent (While r n) refl refl (body .begun) proper) (omega arith)))
+          (arrives-at (omega arith) (silent (While r n) refl refl (rest .begun) proper) b)
+          (arrives-at (omega arith) (silent (While r n) refl refl (body .begun) proper) (omega arith)))
           then body .moves
           then move e h₂ (λ g. arrives-at (omega arith)
-            (silent (Again n) refl refl (leads-at h₁ (below-turn m x)) (proper-below (below-turn m x) proper)) (omega arith))
-          then rest .moves
-      }
+          (silent (Again n) refl refl (leads-at h₁ (below-turn m x)) (proper-below (below-turn m x) proper)) (omega arith))
+          then rest .moves;
+    }
 
     block-part : {n : ℕ} {s s′ : LockSet} (m : Prefix) (x : Atomicity) {w e v : ℕ}
         → h w ≡ row (Atomic n) s m → w + n ≡ e → Code-at s (entered m) (suc w) e
@@ -157,15 +157,15 @@ module _ (p : Program) (t : ℕ) where
     unfolding placeAfter locksAfter atomicityOf
     block-part {n} m x {w} {e} h₁ e₁ body h₂ b rest proper =
         let proper₀ = proper-below (below-behind m x) proper in
-        record
-        { begun = leads-at h₁ (below-refl m)
-        ; moves =
-            move w h₁ (λ g. arrives-at (omega arith)
+        record {
+          begun = leads-at h₁ (below-refl m);
+          moves =
+              move w h₁ (λ g. arrives-at (omega arith)
               (record { legal = keeps (Atomic n) refl (body .begun .same); goes = goes-in m (body .begun .below) proper₀ }) (omega arith))
-            then body .moves
-            then move e h₂ (λ g. arrives-at (omega arith)
+              then body .moves
+              then move e h₂ (λ g. arrives-at (omega arith)
               (record { legal = keeps End refl (rest .begun .same); goes = goes-out m x (rest .begun .below) proper }) b)
-            then rest .moves
+              then rest .moves;
         }
 
     -- ---- the whole code

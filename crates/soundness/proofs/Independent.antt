@@ -26,26 +26,26 @@ use Rattle.soundness.proofs.Owns.{take-free}
 -- ---- pairs that are independent
 
 independent-sym : {x y : Access} → Independent x y → Independent y x
-independent-sym i = record
-  { variables = λ r q vs. sym (i .variables q r vs)
-  ; locks = λ t u ks. sym (i .locks u t ks)
-  ; first-reads = i .second-reads
-  ; second-reads = i .first-reads
-  ; first-waits = i .second-waits
-  ; second-waits = i .first-waits
-  }
+independent-sym i = record {
+  variables = λ r q vs. sym (i .variables q r vs);
+  locks = λ t u ks. sym (i .locks u t ks);
+  first-reads = i .second-reads;
+  second-reads = i .first-reads;
+  first-waits = i .second-waits;
+  second-waits = i .first-waits;
+}
 
 -- no access, and any
 independent-none : (y : Access) → Independent none y
 unfolding waits valueRead variablesAfter locksAfter
-independent-none y = record
-  { variables = λ r q vs. refl
-  ; locks = λ t u ks. refl
-  ; first-reads = λ q vs. refl
-  ; second-reads = λ r vs. refl
-  ; first-waits = λ u ks. refl
-  ; second-waits = λ t ks. refl
-  }
+independent-none y = record {
+  variables = λ r q vs. refl;
+  locks = λ t u ks. refl;
+  first-reads = λ q vs. refl;
+  second-reads = λ r vs. refl;
+  first-waits = λ u ks. refl;
+  second-waits = λ t ks. refl;
+}
 
 read-no-lock : (v : ℕ) → NoLock (reads v)
 unfolding waits locksAfter
@@ -65,42 +65,42 @@ give-no-variable k = record { kept = λ r vs. refl; blind = λ vs. refl }
 
 -- a variable and a lock
 variable-lock : {x y : Access} → NoLock x → NoVariable y → Independent x y
-variable-lock {x} {y} h k = record
-  { variables = λ r q vs. k .kept q (variablesAfter x r vs) ∙ ap (variablesAfter x r) (sym (k .kept q vs))
-  ; locks = λ t u ks. ap (locksAfter y u) (h .kept t ks) ∙ sym (h .kept t (locksAfter y u ks))
-  ; first-reads = λ q vs. ap (valueRead x) (k .kept q vs)
-  ; second-reads = λ r vs. k .blind (variablesAfter x r vs) ∙ sym (k .blind vs)
-  ; first-waits = λ u ks. h .free (locksAfter y u ks) ∙ sym (h .free ks)
-  ; second-waits = λ t ks. ap (waits y) (h .kept t ks)
-  }
+variable-lock {x} {y} h k = record {
+  variables = λ r q vs. k .kept q (variablesAfter x r vs) ∙ ap (variablesAfter x r) (sym (k .kept q vs));
+  locks = λ t u ks. ap (locksAfter y u) (h .kept t ks) ∙ sym (h .kept t (locksAfter y u ks));
+  first-reads = λ q vs. ap (valueRead x) (k .kept q vs);
+  second-reads = λ r vs. k .blind (variablesAfter x r vs) ∙ sym (k .blind vs);
+  first-waits = λ u ks. h .free (locksAfter y u ks) ∙ sym (h .free ks);
+  second-waits = λ t ks. ap (waits y) (h .kept t ks);
+}
 
 -- two variables, by what is said of variables
 variable-variable : {x y : Access} → NoLock x → NoLock y
     → ((r q vs : List ℕ) → variablesAfter y q (variablesAfter x r vs) ≡ variablesAfter x r (variablesAfter y q vs))
     → ((q vs : List ℕ) → valueRead x (variablesAfter y q vs) ≡ valueRead x vs)
     → ((r vs : List ℕ) → valueRead y (variablesAfter x r vs) ≡ valueRead y vs) → Independent x y
-variable-variable {x} {y} h k variables first second = record
-  { variables = variables
-  ; locks = λ t u ks. k .kept u (locksAfter x t ks) ∙ ap (locksAfter x t) (sym (k .kept u ks))
-  ; first-reads = first
-  ; second-reads = second
-  ; first-waits = λ u ks. ap (waits x) (k .kept u ks)
-  ; second-waits = λ t ks. ap (waits y) (h .kept t ks)
-  }
+variable-variable {x} {y} h k variables first second = record {
+  variables = variables;
+  locks = λ t u ks. k .kept u (locksAfter x t ks) ∙ ap (locksAfter x t) (sym (k .kept u ks));
+  first-reads = first;
+  second-reads = second;
+  first-waits = λ u ks. ap (waits x) (k .kept u ks);
+  second-waits = λ t ks. ap (waits y) (h .kept t ks);
+}
 
 -- two locks, by what is said of locks
 lock-lock : {x y : Access} → NoVariable x → NoVariable y
     → ((t u : ℕ) (ks : List ℕ) → locksAfter y u (locksAfter x t ks) ≡ locksAfter x t (locksAfter y u ks))
     → ((u : ℕ) (ks : List ℕ) → waits x (locksAfter y u ks) ≡ waits x ks)
     → ((t : ℕ) (ks : List ℕ) → waits y (locksAfter x t ks) ≡ waits y ks) → Independent x y
-lock-lock {x} {y} h k locks first second = record
-  { variables = λ r q vs. k .kept q (variablesAfter x r vs) ∙ ap (variablesAfter x r) (sym (k .kept q vs))
-  ; locks = locks
-  ; first-reads = λ q vs. ap (valueRead x) (k .kept q vs)
-  ; second-reads = λ r vs. ap (valueRead y) (h .kept r vs)
-  ; first-waits = first
-  ; second-waits = second
-  }
+lock-lock {x} {y} h k locks first second = record {
+  variables = λ r q vs. k .kept q (variablesAfter x r vs) ∙ ap (variablesAfter x r) (sym (k .kept q vs));
+  locks = locks;
+  first-reads = λ q vs. ap (valueRead x) (k .kept q vs);
+  second-reads = λ r vs. ap (valueRead y) (h .kept r vs);
+  first-waits = first;
+  second-waits = second;
+}
 
 read-read : (v w : ℕ) → Independent (reads v) (reads w)
 unfolding valueRead variablesAfter

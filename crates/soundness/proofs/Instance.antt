@@ -58,11 +58,11 @@ module _ (p : Program) (A : (t : ℕ) → Annotated p t) where
 
     swap : Swapped p g t u
     unfolding movedNamed moved
-    swap = record
-      { first = sym (outcome-other p (nextInstruction p g t) (g .machine) (Ne·symm n) (apart .second-waits t (g .machine .locks))) ∙ f
-      ; second = outcome-other p (nextInstruction p g u) (g .machine) n (apart .first-waits u (g .machine .locks)) ∙ e
-      ; same = moved-named-comm p g n apart
-      }
+    swap = record {
+      first = sym (outcome-other p (nextInstruction p g t) (g .machine) (Ne·symm n) (apart .second-waits t (g .machine .locks))) ∙ f;
+      second = outcome-other p (nextInstruction p g u) (g .machine) n (apart .first-waits u (g .machine .locks)) ∙ e;
+      same = moved-named-comm p g n apart;
+    }
 
   -- two moves of the trace, seen from where the first starts
   module _ {g h v : Named} {x y : Move} (X : Moving p A g x h) (Y : Moving p A h y v) (n : x .thread ≢ y .thread) where
@@ -72,20 +72,21 @@ module _ (p : Program) (A : (t : ℕ) → Annotated p t) where
     swappable : Swaps (nextMover p g (x .thread)) (nextMover p g (y .thread))
         → Swappable (machineMoves p A) g x y v
     swappable m =
-        let w = swap (X .invariant) n (X .moved) (after-first .moved) m in
-        (movedNamed p (y .thread) g,
-        record
-        { invariant = X .invariant
-        ; moved = w .first
-        ; named = after-first .named ∙ move-other p g (x .thread) (y .thread) (Ne·symm n)
-        ; next = refl
-        },
-        record
-        { invariant = invariant-moved p A (X .invariant) (y .thread) (w .first)
-        ; moved = w .second
-        ; named = X .named ∙ sym (move-other p g (y .thread) (x .thread) n)
-        ; next = after-first .next ∙ w .same
-        })
+        let w = swap (X .invariant) n (X .moved) (after-first .moved) m in (
+          movedNamed p (y .thread) g,
+          record {
+            invariant = X .invariant;
+            moved = w .first;
+            named = after-first .named ∙ move-other p g (x .thread) (y .thread) (Ne·symm n);
+            next = refl;
+          },
+          record {
+            invariant = invariant-moved p A (X .invariant) (y .thread) (w .first);
+            moved = w .second;
+            named = X .named ∙ sym (move-other p g (y .thread) (x .thread) n);
+            next = after-first .next ∙ w .same;
+          },
+        )
 
   -- ---- the laws
 
@@ -106,9 +107,10 @@ module _ (p : Program) (A : (t : ℕ) → Annotated p t) where
       (getD-set-same (g .finished) t _ 0 (in-finished p A inv t e) ∙ ap (λ (b : Bool). finishedAfter b (getD (g .finished) t 0)) inner)
 
   unmoved : {g h : Named} {x : Move} {t : ℕ} → Moving p A g x h → t ≢ x .thread → Unmoved (machineMoves p A) t g h
-  unmoved {g} {h} {x} {t} X n =
-      (ap (λ (k : Named). statusOf (rowOf p A k t .prefix)) (X .next) ∙ ap (λ (r : Row). statusOf (r .prefix)) (row-other p A g (x .thread) t n),
-      ap (λ (k : Named). blockOf k t) (X .next) ∙ block-other p g (x .thread) t n)
+  unmoved {g} {h} {x} {t} X n = (
+    ap (λ (k : Named). statusOf (rowOf p A k t .prefix)) (X .next) ∙ ap (λ (r : Row). statusOf (r .prefix)) (row-other p A g (x .thread) t n),
+    ap (λ (k : Named). blockOf k t) (X .next) ∙ block-other p g (x .thread) t n,
+  )
 
   -- a move belongs to the block that its thread is in, or to the next
   named-block : {g h : Named} {x : Move} → Moving p A g x h → blockName x ≡ blockOf g (x .thread)
@@ -129,13 +131,13 @@ module _ (p : Program) (A : (t : ℕ) → Annotated p t) where
       ap (λ (k : Named). instructionOf p t (k .machine)) (X .next) ∙ instruction-other p (nextInstruction p g (x .thread)) (g .machine) n
 
   pub machine-movers : Movers (machineMoves p A)
-  machine-movers = record
-    { others = λ {s} {u} {m} {t} X n. unmoved X n
-    ; starts-in = λ {s} {u} {m} X n. named-block X
-    ; ends-in = λ {s} {u} {m} X n. ends-inside X n
-    ; committed = λ {s} {u} {m} X e. goes-committed (goes-move X) e
-    ; right-mover = λ {s} {u} {v} {x} {y} X Y n e. swappable X Y n (right-first (goes-right (goes-move X) e))
-    ; left-mover = λ {s} {u} {v} {x} {y} X Y n e. swappable X Y (Ne·symm n)
+  machine-movers = record {
+    others = λ {s} {u} {m} {t} X n. unmoved X n;
+    starts-in = λ {s} {u} {m} X n. named-block X;
+    ends-in = λ {s} {u} {m} X n. ends-inside X n;
+    committed = λ {s} {u} {m} X e. goes-committed (goes-move X) e;
+    right-mover = λ {s} {u} {v} {x} {y} X Y n e. swappable X Y n (right-first (goes-right (goes-move X) e));
+    left-mover = λ {s} {u} {v} {x} {y} X Y n e. swappable X Y (Ne·symm n)
         (left-second (subst (λ (j : Instruction). T (atMost (atomicityOf p (y .thread) j) Left)) (same-second X n)
-          (goes-left (goes-move Y) (unmoved X n .0 ∙ e))))
-    }
+        (goes-left (goes-move Y) (unmoved X n .0 ∙ e))));
+  }

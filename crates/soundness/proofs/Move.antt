@@ -147,16 +147,16 @@ module _ (p : Program) (A : (t : ℕ) → Annotated p t) where
     -- the invariant holds afterwards
     pub invariant-moved : Invariant p A (movedNamed p t g)
     unfolding movedNamed moved moveBy
-    invariant-moved = record
-      { owns = λ u. dite (ℕ-discrete u t)
+    invariant-moved = record {
+      owns = λ u. dite (ℕ-discrete u t)
           (λ (same : u ≡ t).
-            subst (λ (v : ℕ). Owns v (rowOf p A (movedNamed p t g) v .locks) (movedNamed p t g .machine .locks)) (sym same) owns-mine)
+          subst (λ (v : ℕ). Owns v (rowOf p A (movedNamed p t g) v .locks) (movedNamed p t g .machine .locks)) (sym same) owns-mine)
           (λ (n : u ≢ t). subst (λ (r : Row). Owns u (r .locks) (movedNamed p t g .machine .locks)) (sym (row-other g t u n))
-            (owns-other (inv .owns t) (Ne·symm n) (inv .owns u) (nextAccess p g t) permitted (moved-waits p t (g .machine) e)))
-      ; places = λ u. dite (ℕ-discrete u t)
+          (owns-other (inv .owns t) (Ne·symm n) (inv .owns u) (nextAccess p g t) permitted (moved-waits p t (g .machine) e)));
+      places = λ u. dite (ℕ-discrete u t)
           (λ (same : u ≡ t). subst (λ (v : ℕ). placeOf p A (movedNamed p t g) v ≤ length (codeOf p v)) (sym same) (arrives .1))
-          (λ (n : u ≢ t). omega (arith, place-other g t u n, inv .places u))
-      ; lock-count = length-locks (nextAccess p g t) t (g .machine .locks) ∙ inv .lock-count
-      ; thread-count = length-set (g .machine .threads) t _ ∙ inv .thread-count
-      ; finished-count = length-set (g .finished) t _ ∙ inv .finished-count
-      }
+          (λ (n : u ≢ t). omega (arith, place-other g t u n, inv .places u));
+      lock-count = length-locks (nextAccess p g t) t (g .machine .locks) ∙ inv .lock-count;
+      thread-count = length-set (g .machine .threads) t _ ∙ inv .thread-count;
+      finished-count = length-set (g .finished) t _ ∙ inv .finished-count;
+    }

@@ -44,8 +44,8 @@ unfolding holds empty
 empty-holds k = dite (decLt k lockLimit)
     (λ (h : k < lockLimit). getD-replicate lockLimit k false false h)
     (λ (n : ¬ (k < lockLimit)).
-      let h : length (replicate lockLimit false) ≤ k = omega arith in
-      List·getD-eq-default (replicate lockLimit false) false h)
+    let h : length (replicate lockLimit false) ≤ k = omega arith in
+    List·getD-eq-default (replicate lockLimit false) false h)
 
 owns-empty : (t : ℕ) (ks : List ℕ) → Owns t empty ks
 owns-empty t ks = record { owner = λ k e. let f = empty-holds k in absurd (let z : _≡_ {A = ℕ} 0 1 = cc in omega arith) }
@@ -70,15 +70,15 @@ module _ (p : Program) (A : (t : ℕ) → Annotated p t) where
 
   pub invariant-start : Invariant p A (namedStart p)
   unfolding namedStart start
-  invariant-start = record
-    { owns = λ t.
+  invariant-start = record {
+    owns = λ t.
         subst (λ (s : LockSet). Owns t s (replicate (p .locks) 0)) (A t .begun .same ∙ sym (ap (λ (r : Row). r .locks) (start-row t)))
-        (owns-empty t (replicate (p .locks) 0))
-    ; places = λ t. omega (arith, start-place p t)
-    ; lock-count = length-replicate (p .locks) 0
-    ; thread-count = length-map (p .threads) (λ (c : CodeSection). fresh)
-    ; finished-count = length-replicate (length (p .threads)) 0
-    }
+        (owns-empty t (replicate (p .locks) 0));
+    places = λ t. omega (arith, start-place p t);
+    lock-count = length-replicate (p .locks) 0;
+    thread-count = length-map (p .threads) (λ (c : CodeSection). fresh);
+    finished-count = length-replicate (length (p .threads)) 0;
+  }
 
   quiescent-start : Quiescent (machineMoves p A) (namedStart p)
   quiescent-start t = ap (λ (r : Row). statusOf (r .prefix)) (start-row t) ∙ outer-begun (A t .begun .below)
@@ -90,7 +90,7 @@ module _ (p : Program) (A : (t : ℕ) → Annotated p t) where
   outside-end s nobody t = dite (decLt t (length (p .threads)))
       (λ (h : t < length (p .threads)). nobody t h)
       (λ (n : ¬ (t < length (p .threads))).
-        ap (λ (c : List Instruction). coveredFrom 0 c (threadOf s t .place)) (no-code p t (omega arith)) ∙ uncovered (threadOf s t .place))
+      ap (λ (c : List Instruction). coveredFrom 0 c (threadOf s t .place)) (no-code p t (omega arith)) ∙ uncovered (threadOf s t .place))
 
   quiescent-end : {v : Named} → Invariant p A v → NobodyInside p (v .machine) → Quiescent (machineMoves p A) v
   quiescent-end {v} inv nobody t = outer-outside (rowOf p A v t .prefix) (sym (inside-row p A inv t) ∙ outside-end (v .machine) nobody t)
@@ -107,12 +107,12 @@ module _ (p : Program) (A : (t : ℕ) → Annotated p t) where
       let end = quiescent-end (T .invariant) (subst (NobodyInside p) (sym (T .same-state)) nobody) in
       let R = reduction (machineMoves p A) (machine-movers p A) (T .trace) quiescent-start end in
       let L = listed p A none (R .uninterrupted) invariant-start in
-      record
-      { serial = map (λ (m : Move). m .thread) (R .moves)
-      ; threads = L .threads
-      ; uninterrupted = L .uninterrupted
-      ; same-state = L .same-state ∙ T .same-state
-      ; same-moved = L .same-moved ∙ ap (λ (n : ℕ). 0 + n) (same-length (machineMoves p A) R) ∙ sym (T .same-moved)
-      ; same-moves = λ t. ap (movesOf t) (L .same-moves) ∙ R .same-moves t
-      ; same-order = λ a b h. subst (Precedes a b) (sym (L .same-moves)) (same-precedence (machineMoves p A) R a b h)
+      record {
+        serial = map (λ (m : Move). m .thread) (R .moves);
+        threads = L .threads;
+        uninterrupted = L .uninterrupted;
+        same-state = L .same-state ∙ T .same-state;
+        same-moved = L .same-moved ∙ ap (λ (n : ℕ). 0 + n) (same-length (machineMoves p A) R) ∙ sym (T .same-moved);
+        same-moves = λ t. ap (movesOf t) (L .same-moves) ∙ R .same-moves t;
+        same-order = λ a b h. subst (Precedes a b) (sym (L .same-moves)) (same-precedence (machineMoves p A) R a b h);
       }

@@ -58,29 +58,29 @@ module _ (p : Program) (A : (t : ℕ) → Annotated p t) where
   moved-entry : (t : ℕ) (ts : List ℕ) (g : Named) (c : Counts) → Invariant p A g → outcome p t (g .machine) ≡ Moved
       → Traced p A ts (movedNamed p t g) (counted Moved c) → Traced p A (t ∷ ts) g c
   unfolding moveOf
-  moved-entry t ts g c inv e r = record
-    { last = r .last
-    ; trace = subst (λ (l : List Move). Trace (machineMoves p A) g l (r .last)) (sym (moves-by p t ts g e))
-        (trace-cons (record { invariant = inv; moved = e; named = refl; next = refl }) (r .trace))
-    ; invariant = r .invariant
-    ; same-state = r .same-state ∙ sym (ap (λ (x : Run). x .state) (run-by p t ts g c e))
-    ; same-moved =
+  moved-entry t ts g c inv e r = record {
+    last = r .last;
+    trace = subst (λ (l : List Move). Trace (machineMoves p A) g l (r .last)) (sym (moves-by p t ts g e))
+        (trace-cons (record { invariant = inv; moved = e; named = refl; next = refl }) (r .trace));
+    invariant = r .invariant;
+    same-state = r .same-state ∙ sym (ap (λ (x : Run). x .state) (run-by p t ts g c e));
+    same-moved =
         ap (λ (x : Run). x .counts .moved) (run-by p t ts g c e) ∙ r .same-moved
-        ∙ sym (ap (λ (l : List Move). c .moved + length l) (moves-by p t ts g e) ∙ omega arith)
-    }
+        ∙ sym (ap (λ (l : List Move). c .moved + length l) (moves-by p t ts g e) ∙ omega arith);
+  }
 
   -- an entry that does not move
   other-entry : (t : ℕ) (ts : List ℕ) (g : Named) (c d : Counts) → d .moved ≡ c .moved → runOf p c g (t ∷ ts) ≡ runOf p d g ts
       → movesFrom p g (t ∷ ts) ≡ movesFrom p g ts → Traced p A ts g d → Traced p A (t ∷ ts) g c
-  other-entry t ts g c d m e f r = record
-    { last = r .last
-    ; trace = subst (λ (l : List Move). Trace (machineMoves p A) g l (r .last)) (sym f) (r .trace)
-    ; invariant = r .invariant
-    ; same-state = r .same-state ∙ sym (ap (λ (x : Run). x .state) e)
-    ; same-moved =
+  other-entry t ts g c d m e f r = record {
+    last = r .last;
+    trace = subst (λ (l : List Move). Trace (machineMoves p A) g l (r .last)) (sym f) (r .trace);
+    invariant = r .invariant;
+    same-state = r .same-state ∙ sym (ap (λ (x : Run). x .state) e);
+    same-moved =
         ap (λ (x : Run). x .counts .moved) e ∙ r .same-moved ∙ ap (λ (n : ℕ). n + length (movesFrom p g ts)) m
-        ∙ sym (ap (λ (l : List Move). c .moved + length l) f)
-    }
+        ∙ sym (ap (λ (l : List Move). c .moved + length l) f);
+  }
 
   pub traced : (ts : List ℕ) (g : Named) (c : Counts) → Invariant p A g → Traced p A ts g c
   unfolding movesFrom runFrom
@@ -108,28 +108,29 @@ module _ (p : Program) (A : (t : ℕ) → Annotated p t) where
   listed-cons {l} {g} {m} c inv alone e named r =
       let t = m .thread in
       let s = g .machine in
-      record
-      { uninterrupted =
-          (e,
+      record {
+        uninterrupted = (
+          e,
           (λ u b n. inside-row p A inv u ∙ outside-outer (rowOf p A g u .prefix) (alone u n)),
-          subst (λ (x : State). UninterruptedFrom p x (threads l)) (sym (ap (λ (o : Outcome). after o s (moved p t s)) e)) (r .uninterrupted))
-      ; same-state = ap (λ (x : Run). x .state) (run-by p t (threads l) g c e) ∙ r .same-state
-      ; same-moved = ap (λ (x : Run). x .counts .moved) (run-by p t (threads l) g c e) ∙ r .same-moved ∙ omega arith
-      ; same-moves =
-          moves-by p t (threads l) g e ∙ ap (λ (b : Move). b ∷ movesFrom p (movedNamed p t g) (threads l)) (sym named)
-          ∙ ap (λ (k : List Move). m ∷ k) (r .same-moves)
-      ; threads = threads-cons p t (threads l) (in-program p A inv t e) (r .threads)
+          subst (λ (x : State). UninterruptedFrom p x (threads l)) (sym (ap (λ (o : Outcome). after o s (moved p t s)) e)) (r .uninterrupted),
+        );
+        same-state = ap (λ (x : Run). x .state) (run-by p t (threads l) g c e) ∙ r .same-state;
+        same-moved = ap (λ (x : Run). x .counts .moved) (run-by p t (threads l) g c e) ∙ r .same-moved ∙ omega arith;
+        same-moves =
+            moves-by p t (threads l) g e ∙ ap (λ (b : Move). b ∷ movesFrom p (movedNamed p t g) (threads l)) (sym named)
+            ∙ ap (λ (k : List Move). m ∷ k) (r .same-moves);
+        threads = threads-cons p t (threads l) (in-program p A inv t e) (r .threads);
       }
 
   pub listed : {g v : Named} {l : List Move} (c : Counts) → Uninterrupted (machineMoves p A) g l v → Invariant p A g → Listed p l g v c
   unfolding UninterruptedFrom runFrom movesFrom
-  listed c alone-nil inv = record
-    { uninterrupted = tt
-    ; same-state = refl
-    ; same-moved = sym (add-zero (c .moved))
-    ; same-moves = refl
-    ; threads = threads-nil p
-    }
+  listed c alone-nil inv = record {
+    uninterrupted = tt;
+    same-state = refl;
+    same-moved = sym (add-zero (c .moved));
+    same-moves = refl;
+    threads = threads-nil p;
+  }
   listed {v} c (alone-cons {m} {l} alone X rest) inv =
       let inv′ = invariant-moved p A inv (m .thread) (X .moved) in
       listed-cons c inv alone (X .moved) (X .named)

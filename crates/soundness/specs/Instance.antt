@@ -67,13 +67,13 @@ module _ (p : Program) (A : (t : ℕ) → Annotated p t) where
     pub next : u ≡ movedNamed p (m .thread) g
 
   abbrev pub machineMoves : Moves
-  machineMoves = record
-    { State = Named
-    ; Move = Move
-    ; Block = BlockName
-    ; thread = λ m. m .thread
-    ; block = blockName
-    ; step = Moving
-    ; status = λ g t. statusOf (rowOf g t .prefix)
-    ; blockAt = blockOf
-    }
+  machineMoves = record {
+    State = Named;
+    Move = Move;
+    Block = BlockName;
+    thread = λ m. m .thread;
+    block = blockName;
+    step = Moving;
+    status = λ g t. statusOf (rowOf g t .prefix);
+    blockAt = blockOf;
+  }

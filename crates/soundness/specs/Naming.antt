@@ -50,10 +50,10 @@ finishedAfter true n = n
 finishedAfter false n = suc n
 
 unfoldable pub movedNamed : Program → ℕ → Named → Named
-movedNamed p t g = record
-  { machine = moved p t (g .machine)
-  ; finished = set (g .finished) t (finishedAfter (inside p (moved p t (g .machine)) t) (getD (g .finished) t 0))
-  }
+movedNamed p t g = record {
+  machine = moved p t (g .machine);
+  finished = set (g .finished) t (finishedAfter (inside p (moved p t (g .machine)) t) (getD (g .finished) t 0));
+}
 
 -- an entry of the list that does not move changes nothing
 abbrev pub afterNamed : Outcome → (unchanged moved : Named) → Named

@@ -23,10 +23,10 @@ pub record Legal (p : Program) (t : ℕ) (i : Instruction) (s s′ : LockSet) : 
 pub data Typed (p : Program) (t : ℕ) : LockSet → Code → LockSet → Atomicity → Type 0 where
   typed-done : {s : LockSet} → Typed p t s done s Both
   typed-plain : {i : Instruction} {c : Code} {s s′ s″ : LockSet} {a : Atomicity}
-    → formOf i ≡ Plain → Legal p t i s s′ → Typed p t s′ c s″ a → Typed p t s (plain i c) s″ (composition (atomicityOf p t i) a)
+      → formOf i ≡ Plain → Legal p t i s s′ → Typed p t s′ c s″ a → Typed p t s (plain i c) s″ (composition (atomicityOf p t i) a)
   typed-choice : {r : ℕ} {a b c : Code} {s s′ s″ : LockSet} {x y z : Atomicity}
-    → Typed p t s a s′ x → Typed p t s b s′ y → Typed p t s′ c s″ z → Typed p t s (choice r a b c) s″ (composition (join x y) z)
+      → Typed p t s a s′ x → Typed p t s b s′ y → Typed p t s′ c s″ z → Typed p t s (choice r a b c) s″ (composition (join x y) z)
   typed-loop : {r : ℕ} {a c : Code} {s s″ : LockSet} {x z : Atomicity}
-    → Typed p t s a s x → Typed p t s c s″ z → Typed p t s (loop r a c) s″ (composition (closure x) z)
+      → Typed p t s a s x → Typed p t s c s″ z → Typed p t s (loop r a c) s″ (composition (closure x) z)
   typed-block : {a c : Code} {s s′ s″ : LockSet} {x z : Atomicity}
-    → Typed p t s a s′ x → x ≢ Top → Typed p t s′ c s″ z → Typed p t s (block a c) s″ (composition x z)
+      → Typed p t s a s′ x → x ≢ Top → Typed p t s′ c s″ z → Typed p t s (block a c) s″ (composition x z)
