@@ -3,6 +3,7 @@ use Prim.Native.Nat.{ℕ}
 use native.Mathlib.Omega.{arith}
 use mathlib.Core.Path.{_≡_, refl, sym, ap, _∙_, subst}
 use mathlib.Core.List.{List}
+use lib.ListN.{length}
 use Rattle.judge.specs.Acceptance.{Accepted, accept, sound, programRead}
 use Rattle.judge.specs.Judging.{judgeProgram}
 use Rattle.program.proofs.Sound.{sound-file}
@@ -13,6 +14,7 @@ use Rattle.program.specs.declared.layout.Reading.{Reading}
 use Rattle.program.specs.declared.layout.Reading.the-variants.{Sound, Refused}
 use Rattle.soundness.specs.Demand.{Demand3}
 use Rattle.soundness.specs.Instance.{Annotated}
+use Rattle.soundness.specs.Naming.{Move, moves}
 use Rattle.soundness.specs.Order.{Demand3InOrder}
 use Rattle.soundness.specs.WellNested.{WellNested}
 use Rattle.soundness.proofs.Accepted.{sound-nested, judged-annotated}
@@ -45,3 +47,8 @@ unfolding Demand3 Demand3InOrder
 demand3 file a e list threads nobody =
     let r = demand3-in-order file a e list threads nobody in
     record { serial = r .serial; uninterrupted = r .uninterrupted; same-state = r .same-state; same-moved = r .same-moved }
+
+-- each thread's number of moves is the same
+pub same-counts : {p : Program} {list : List ℕ} (r : SerializedInOrder p list) (t : ℕ)
+    → length (movesOf t (moves p (r .serial))) ≡ length (movesOf t (moves p list))
+same-counts r t = ap (λ (l : List Move). length l) (r .same-moves t)

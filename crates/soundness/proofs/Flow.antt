@@ -93,16 +93,16 @@ module _ (p : Program) (t : ℕ) where
     leads-at : {s : LockSet} {i : Instruction} {m n : Prefix} {q : ℕ} → h q ≡ row i s n → Below m n → Leads s m (h q)
     leads-at {s} {m} e l = subst (Leads s m) (sym e) (record { same = refl; below = l })
 
-    abbrev Code-at : LockSet → Prefix → ℕ → ℕ → Type 0
-    Code-at = Part p t h last
+    abbrev CodeAt : LockSet → Prefix → ℕ → ℕ → Type 0
+    CodeAt = Part p t h last
 
     -- ---- each construct, from its parts
 
-    done-part : {s : LockSet} {m : Prefix} {w : ℕ} → Leads s (behind m Both) (h w) → Code-at s m w w
+    done-part : {s : LockSet} {m : Prefix} {w : ℕ} → Leads s (behind m Both) (h w) → CodeAt s m w w
     done-part {s} {m} {w} l = record { begun = subst (λ (n : Prefix). Leads s n (h w)) (behind-both m) l; moves = span-empty (Flows p t h last) w }
 
     plain-part : {i : Instruction} {s s′ : LockSet} {m : Prefix} {w v : ℕ} → formOf i ≡ Plain → Legal p t i s s′ → h w ≡ row i s m
-        → Proper (behind m (atomicityOf p t i)) → w < last → Code-at s′ (behind m (atomicityOf p t i)) (suc w) v → Code-at s m w v
+        → Proper (behind m (atomicityOf p t i)) → w < last → CodeAt s′ (behind m (atomicityOf p t i)) (suc w) v → CodeAt s m w v
     plain-part {i} {s} {m} {w} f l h₁ proper b rest =
         let follows : Follows p t (row i s m) (h (suc w)) =
         record { legal = subst (Legal p t i s) (rest .begun .same) l; goes = goes-behind m (rest .begun .below) proper } in
@@ -112,10 +112,10 @@ module _ (p : Program) (t : ℕ) where
         }
 
     choice-part : {r n k : ℕ} {s s′ : LockSet} {m : Prefix} (x y : Atomicity) {w e f v : ℕ}
-        → h w ≡ row (If r n) s m → w + n ≡ e → Code-at s m (suc w) e
-        → h e ≡ row (Else k) s′ (behind m x) → e + k ≡ f → Code-at s m (suc e) f
-        → h f ≡ row End s′ (behind m (join x y)) → f < last → Code-at s′ (behind m (join x y)) (suc f) v
-        → Proper (behind m (join x y)) → Code-at s m w v
+        → h w ≡ row (If r n) s m → w + n ≡ e → CodeAt s m (suc w) e
+        → h e ≡ row (Else k) s′ (behind m x) → e + k ≡ f → CodeAt s m (suc e) f
+        → h f ≡ row End s′ (behind m (join x y)) → f < last → CodeAt s′ (behind m (join x y)) (suc f) v
+        → Proper (behind m (join x y)) → CodeAt s m w v
     unfolding placeAfter locksAfter atomicityOf
     choice-part {r} {n} {k} {m} x y {w} {e} {f} h₁ e₁ first h₂ e₂ second h₃ b rest proper =
         let proper₁ = proper-below (below-first m x y) proper in
@@ -134,9 +134,9 @@ module _ (p : Program) (t : ℕ) where
         }
 
     loop-part : {r n : ℕ} {s : LockSet} (m : Prefix) (x : Atomicity) {w e v : ℕ}
-        → h w ≡ row (While r n) s (behind m (closure x)) → w + n ≡ e → Code-at s (behind m (closure x)) (suc w) e
-        → h e ≡ row (Again n) s (behind (behind m (closure x)) x) → e < last → Code-at s (behind m (closure x)) (suc e) v
-        → Proper (behind m (closure x)) → Code-at s m w v
+        → h w ≡ row (While r n) s (behind m (closure x)) → w + n ≡ e → CodeAt s (behind m (closure x)) (suc w) e
+        → h e ≡ row (Again n) s (behind (behind m (closure x)) x) → e < last → CodeAt s (behind m (closure x)) (suc e) v
+        → Proper (behind m (closure x)) → CodeAt s m w v
     unfolding placeAfter locksAfter atomicityOf
     loop-part {r} {n} m x {w} {e} h₁ e₁ body h₂ b rest proper = record {
       begun = leads-at h₁ (below-behind m (closure x));
@@ -151,9 +151,9 @@ module _ (p : Program) (t : ℕ) where
     }
 
     block-part : {n : ℕ} {s s′ : LockSet} (m : Prefix) (x : Atomicity) {w e v : ℕ}
-        → h w ≡ row (Atomic n) s m → w + n ≡ e → Code-at s (entered m) (suc w) e
-        → h e ≡ row End s′ (behind (entered m) x) → e < last → Code-at s′ (behind m x) (suc e) v
-        → Proper (behind m x) → Code-at s m w v
+        → h w ≡ row (Atomic n) s m → w + n ≡ e → CodeAt s (entered m) (suc w) e
+        → h e ≡ row End s′ (behind (entered m) x) → e < last → CodeAt s′ (behind m x) (suc e) v
+        → Proper (behind m x) → CodeAt s m w v
     unfolding placeAfter locksAfter atomicityOf
     block-part {n} m x {w} {e} h₁ e₁ body h₂ b rest proper =
         let proper₀ = proper-below (below-behind m x) proper in

@@ -14,6 +14,7 @@
 --     Move          one move, and the invariant
 --     Commute       two moves commute
 --     Instance      the machine obeys the laws of movers
+--     Naming        naming the moves changes nothing of a run
 --     Traced        a list as a trace, and back
 --     Serialize     demand 3 for annotated programs
 -- The file:
@@ -32,6 +33,7 @@ pub mod Independent
 pub mod Move
 pub mod Commute
 pub mod Instance
+pub mod Naming
 pub mod Traced
 pub mod Serialize
 pub mod Accepted

@@ -1,16 +1,16 @@
 -- Demand 3 for every program whose threads' code is annotated (`serialized`). Assumes nothing.
-use Prim.Native.Nat.{ℕ, _+_, _≤_, _<_}
+use Prim.Native.Nat.{ℕ, _≤_, _<_}
 use native.Mathlib.Decide.{decLt}
 use native.Mathlib.Omega.{arith}
 use mathlib.Core.Path.{_≡_, refl, sym, ap, _∙_, subst}
 use mathlib.Core.Logic.{dite}
 use mathlib.Core.Bool.{false}
-use mathlib.Core.List.{List, [], map}
+use mathlib.Core.List.{List, []}
 use lib.ListN.{length, replicate, length-map, length-replicate, getD-replicate, List·getD-map, List·getD-eq-default}
 use Rattle.judge.specs.LockSet.{empty, holds, lockLimit}
 use Rattle.judge.specs.declared.lock_set.LockSet.{LockSet}
 use Rattle.machine.specs.Block.{coveredFrom, inside, NobodyInside, Uninterrupted}
-use Rattle.machine.specs.Run.{Counts, run}
+use Rattle.machine.specs.Run.{run}
 use Rattle.machine.specs.State.{State, codeOf, threadOf, start, fresh}
 use Rattle.machine.specs.declared.thread.Thread.{Thread}
 use Rattle.program.specs.Layout.{Program, CodeSection}
@@ -24,7 +24,9 @@ use Rattle.soundness.specs.Instance.{Annotated, rowOf, Invariant, machin
 use Rattle.soundness.specs.Naming.{Move, Named, namedStart, moves}
 use Rattle.soundness.specs.Order.{movesOf, Precedes, SerializedInOrder}
 use Rattle.soundness.specs.Prefix.{Prefix, outer, statusOf, Below, below-outer}
+use Rattle.soundness.specs.Traced.{threadsOf}
 use Rattle.soundness.proofs.Instance.{inside-row, machine-movers}
+use Rattle.soundness.proofs.Naming.{run-end, moves-counted}
 use Rattle.soundness.proofs.Prefix.{outer-outside}
 use Rattle.soundness.proofs.Traced.{traced, listed}
 
@@ -97,22 +99,21 @@ module _ (p : Program) (A : (t : ℕ) → Annotated p t) where
 
   -- ---- the theorem
 
-  abbrev none : Counts
-  none = record { moved = 0; waiting = 0; idle = 0 }
-
   pub serialized : (list : List ℕ) → NobodyInside p (run p list .state) → SerializedInOrder p list
-  unfolding run moves namedStart Uninterrupted
+  unfolding moves namedStart Uninterrupted
   serialized list nobody =
-      let T = traced p A list (namedStart p) none invariant-start in
-      let end = quiescent-end (T .invariant) (subst (NobodyInside p) (sym (T .same-state)) nobody) in
+      let T = traced p A list (namedStart p) invariant-start in
+      let end = quiescent-end (T .invariant) (subst (NobodyInside p) (run-end p list) nobody) in
       let R = reduction (machineMoves p A) (machine-movers p A) (T .trace) quiescent-start end in
-      let L = listed p A none (R .uninterrupted) invariant-start in
+      let L = listed p A (R .uninterrupted) invariant-start in
+      let serial = threadsOf (R .moves) in
       record {
-        serial = map (λ (m : Move). m .thread) (R .moves);
+        serial = serial;
         threads = L .threads;
         uninterrupted = L .uninterrupted;
-        same-state = L .same-state ∙ T .same-state;
-        same-moved = L .same-moved ∙ ap (λ (n : ℕ). 0 + n) (same-length (machineMoves p A) R) ∙ sym (T .same-moved);
+        same-state = run-end p serial ∙ ap (λ (g : Named). g .machine) (L .same-end) ∙ sym (run-end p list);
+        same-moved =
+            moves-counted p serial ∙ ap (λ (l : List Move). length l) (L .same-moves) ∙ same-length (machineMoves p A) R ∙ sym (moves-counted p list);
         same-moves = λ t. ap (movesOf t) (L .same-moves) ∙ R .same-moves t;
         same-order = λ a b h. subst (Precedes a b) (sym (L .same-moves)) (same-precedence (machineMoves p A) R a b h);
       }

@@ -61,16 +61,22 @@ afterNamed Moved g g′ = g′
 afterNamed Waiting g g′ = g
 afterNamed Idle g g′ = g
 
+abbrev pub stepNamed : Program → ℕ → Named → Named
+stepNamed p t g = afterNamed (outcome p t (g .machine)) g (movedNamed p t g)
+
+unfoldable pub runNamed : Program → Named → List ℕ → Named
+runNamed p g [] = g
+runNamed p g (t ∷ ts) = runNamed p (stepNamed p t g) ts
+
+-- the moves of a list, in order
 abbrev pub alsoMoved : Outcome → Move → List Move → List Move
 alsoMoved Moved m ms = m ∷ ms
 alsoMoved Waiting m ms = ms
 alsoMoved Idle m ms = ms
 
--- the moves of a list, in order
 unfoldable pub movesFrom : Program → Named → List ℕ → List Move
 movesFrom p g [] = []
-movesFrom p g (t ∷ ts) =
-    alsoMoved (outcome p t (g .machine)) (moveOf g t) (movesFrom p (afterNamed (outcome p t (g .machine)) g (movedNamed p t g)) ts)
+movesFrom p g (t ∷ ts) = alsoMoved (outcome p t (g .machine)) (moveOf g t) (movesFrom p (stepNamed p t g) ts)
 
 unfoldable pub moves : Program → List ℕ → List Move
 moves p ts = movesFrom p (namedStart p) ts

@@ -1,32 +1,26 @@
 -- A list of thread numbers as a trace, and back. Only the proof of demand 3 speaks of it.
-use Prim.Native.Nat.{ℕ, _+_}
+use Prim.Native.Nat.{ℕ}
 use mathlib.Core.Path.{_≡_}
 use mathlib.Core.List.{List, map}
-use lib.ListN.{length}
 use Rattle.machine.specs.Block.{UninterruptedFrom}
-use Rattle.machine.specs.Run.{Counts, Run, runFrom}
 use Rattle.program.specs.Layout.{Program}
 use Rattle.reduction.specs.Reduction.{Trace}
 use Rattle.soundness.specs.Demand.{ThreadsOf}
 use Rattle.soundness.specs.Instance.{Annotated, Invariant, machineMoves}
-use Rattle.soundness.specs.Naming.{Move, Named, movesFrom}
+use Rattle.soundness.specs.Naming.{Move, Named, runNamed, movesFrom}
 
--- a run that begins with these counts
-abbrev pub runOf : Program → Counts → Named → List ℕ → Run
-runOf p c g ts = runFrom p (record { counts = c; state = g .machine }) ts
+-- a trace to where the invariant still holds
+pub record Traced (p : Program) (A : (t : ℕ) → Annotated p t) (g : Named) (l : List Move) (v : Named) : Type 0 where
+  pub trace : Trace (machineMoves p A) g l v
+  pub invariant : Invariant p A v
 
--- the list's moves lead where the list does
-pub record Traced (p : Program) (A : (t : ℕ) → Annotated p t) (ts : List ℕ) (g : Named) (c : Counts) : Type 0 where
-  pub last : Named
-  pub trace : Trace (machineMoves p A) g (movesFrom p g ts) last
-  pub invariant : Invariant p A last
-  pub same-state : last .machine ≡ runOf p c g ts .state
-  pub same-moved : runOf p c g ts .counts .moved ≡ c .moved + length (movesFrom p g ts)
+-- the threads that make the moves, one after the other
+abbrev pub threadsOf : List Move → List ℕ
+threadsOf l = map (λ (m : Move). m .thread) l
 
--- the threads of the moves, as a list, lead where the moves do
-pub record Listed (p : Program) (l : List Move) (g v : Named) (c : Counts) : Type 0 where
-  pub uninterrupted : UninterruptedFrom p (g .machine) (map (λ (m : Move). m .thread) l)
-  pub same-state : runOf p c g (map (λ (m : Move). m .thread) l) .state ≡ v .machine
-  pub same-moved : runOf p c g (map (λ (m : Move). m .thread) l) .counts .moved ≡ c .moved + length l
-  pub same-moves : movesFrom p g (map (λ (m : Move). m .thread) l) ≡ l
-  pub threads : ThreadsOf p (map (λ (m : Move). m .thread) l)
+-- they are an uninterrupted list that makes these moves and leads to v
+pub record Listed (p : Program) (l : List Move) (g v : Named) : Type 0 where
+  pub threads : ThreadsOf p (threadsOf l)
+  pub uninterrupted : UninterruptedFrom p (g .machine) (threadsOf l)
+  pub same-end : runNamed p g (threadsOf l) ≡ v
+  pub same-moves : movesFrom p g (threadsOf l) ≡ l
