@@ -15,7 +15,7 @@ use Rattle.program.specs.declared.layout.Reading.the-variants.{Sound, Refused}
 use Rattle.soundness.specs.Demand.{Demand3}
 use Rattle.soundness.specs.Instance.{Annotated}
 use Rattle.soundness.specs.Naming.{Move, moves}
-use Rattle.soundness.specs.Order.{Demand3InOrder}
+use Rattle.soundness.specs.Order.{movesOf, SerializedInOrder, Demand3InOrder}
 use Rattle.soundness.specs.WellNested.{WellNested}
 use Rattle.soundness.proofs.Accepted.{sound-nested, judged-annotated}
 use Rattle.soundness.proofs.Serialize.{serialized}
