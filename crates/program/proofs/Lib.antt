@@ -1,8 +1,11 @@
 -- Laws that belong to no one function.
 <<<<<<< HEAD
 <<<<<<< HEAD
+<<<<<<< HEAD
 =======
 >>>>>>> ac6692381d7fffd3549985b37646c41f708c48ba
+=======
+>>>>>>> 59fb2a377fef40820678966336160149d511bf37
 --     Decode           what a decoded instruction's fields satisfy
 --     Contents         a file's contents by index
 --     Search           the search for the first offence
@@ -18,6 +21,7 @@
 --     StructureScan    ... from the code to the scan
 --     Jumps            distances lead to places of the code
 <<<<<<< HEAD
+<<<<<<< HEAD
 =======
 --     Decode     what a decoded instruction's fields satisfy
 --     Contents   a file's contents by index
@@ -31,6 +35,8 @@
 >>>>>>> b33731d89e6131b47ea845233af9fd4911062f56
 =======
 >>>>>>> ac6692381d7fffd3549985b37646c41f708c48ba
+=======
+>>>>>>> 59fb2a377fef40820678966336160149d511bf37
 pub mod Decode
 pub mod Contents
 pub mod Search

@@ -1,0 +1,121 @@
+-- What an accepted file's program is: each thread's code is well nested, typed, and takes only locks that there are. Assumes nothing.
+use Prim.Native.Nat.{ℕ, zero, suc, _+_, _*_, _≤_, _<_}
+use native.Mathlib.Decide.{decLt}
+use native.Mathlib.Nat.{add-zero, zero-add}
+use native.Mathlib.Omega.{arith}
+use mathlib.Core.Path.{_≡_, refl, sym, subst}
+use mathlib.Core.Logic.{dite}
+use mathlib.Core.List.{List, [], _∷_}
+use lib.ListN.{length, getD, List·getD-eq-default}
+use Rattle.judge.specs.Judging.{judge, judgeThread, judgeThreads, judgeProgram}
+use Rattle.judge.specs.LockSet.{empty}
+use Rattle.machine.specs.State.{codeOf}
+use Rattle.machine.specs.Step.{accessOf}
+use Rattle.program.proofs.Contents.{length-instructions, getD-instructions}
+use Rattle.program.proofs.Decode.{instruction-fields}
+use Rattle.program.proofs.Structure.{nested-flat}
+use Rattle.program.specs.Choice.{fine}
+use Rattle.program.specs.Code.{structure, structured}
+use Rattle.program.specs.Instruction.{decodeAt, instructionOf}
+use Rattle.program.specs.Layout.{Program, CodeSection, programOf, instructionsAt, threadsAt}
+use Rattle.program.specs.Nesting.{firstBroken, atCodeEnd}
+use Rattle.program.specs.Sound.{FieldsGood, SoundFile, SoundSection, SoundSections, countAt}
+use Rattle.program.specs.WellFormed.{WellFormed, Writes}
+use Rattle.program.specs.declared.instruction.Instruction.{Instruction}
+use Rattle.program.specs.declared.instruction.Instruction.the-variants.{Set, Copy, Add, Sub, Less, Read, Write, Take, Give, If, Else, While, Again, Atomic, End}
+use Rattle.program.specs.declared.layout.Layout.{Layout}
+use Rattle.soundness.specs.Access.{TakesBelow}
+use Rattle.soundness.specs.Instance.{Annotated}
+use Rattle.soundness.specs.Typing.{typed-done}
+use Rattle.soundness.specs.WellNested.{noSection, TakesGood, WellNested, Derived}
+use Rattle.soundness.proofs.Annotated.{annotated}
+use Rattle.soundness.proofs.Typing.{bind-fine, judge-typed}
+
+-- ---- from the file: nesting, and the locks taken
+
+-- what holds of no code and of every section holds of every thread's code
+module _ (P : List Instruction → Type 0) (none : P []) (s : List ℕ) (locks variables : ℕ)
+    (each : (at : ℕ) → SoundSection s locks variables at → P (instructionsAt locks variables s (countAt s at) (at + 2))) where
+  section-code : (n at m : ℕ) → SoundSections s locks variables n at m → (t : ℕ) → P (getD (threadsAt locks variables s n at) t noSection .code)
+  unfolding threadsAt
+  section-code zero at m h t = none
+  section-code (suc n) at m h zero = each at (h .1)
+  section-code (suc n) at m h (suc t) = section-code n (at + 2 + 4 * countAt s at) (h .0) (h .3) t
+
+takes-good : (locks variables : ℕ) (i : Instruction) → FieldsGood locks variables i → TakesBelow locks (accessOf i)
+unfolding accessOf TakesBelow
+takes-good k v (Set a n) h = tt
+takes-good k v (Copy a b) h = tt
+takes-good k v (Add a b c) h = tt
+takes-good k v (Sub a b c) h = tt
+takes-good k v (Less a b c) h = tt
+takes-good k v (Read a w) h = tt
+takes-good k v (Write a w) h = tt
+takes-good k v (Take l) h = h
+takes-good k v (Give l) h = tt
+takes-good k v (If a n) h = tt
+takes-good k v (Else n) h = tt
+takes-good k v (While a n) h = tt
+takes-good k v (Again n) h = tt
+takes-good k v (Atomic n) h = tt
+takes-good k v End h = tt
+
+takes-at : (locks variables : ℕ) (s : List ℕ) (n at : ℕ) → TakesGood locks (instructionsAt locks variables s n at)
+takes-at locks variables s n at q = dite (decLt q n)
+    (λ (h : q < n).
+    subst (λ (i : Instruction). TakesBelow locks (accessOf i)) (sym (getD-instructions locks variables s n at q h))
+    (takes-good locks variables (instructionOf (decodeAt locks variables s (at + 4 * q))) (instruction-fields locks variables s (at + 4 * q))))
+    (λ (k : ¬ (q < n)).
+    let out : length (instructionsAt locks variables s n at) ≤ q = omega (arith, length-instructions locks variables s n at) in
+    subst (λ (i : Instruction). TakesBelow locks (accessOf i)) (sym (List·getD-eq-default (instructionsAt locks variables s n at) End out))
+    (takes-good locks variables End tt))
+
+writes-nothing : Writes [] (structured [])
+unfolding firstBroken atCodeEnd
+writes-nothing = nested-flat [] refl
+
+pub sound-nested : (s : List ℕ) (l : Layout) → SoundFile s l → WellNested (programOf s l)
+unfolding programOf codeOf
+sound-nested s l h = record {
+  writes = λ t. section-code (λ (is : List Instruction). Writes is (structured is)) writes-nothing s (l .locks) (l .variables)
+      (λ at x. nested-flat (instructionsAt (l .locks) (l .variables) s (countAt s at) (at + 2)) (x .nested))
+      (l .threads) (5 + 6 * l .variables) (l .instructions) (h .sections) t;
+  takes = λ t. section-code (TakesGood (l .locks)) (λ q. takes-good (l .locks) (l .variables) End tt) s (l .locks) (l .variables)
+      (λ at x. takes-at (l .locks) (l .variables) s (countAt s at) (at + 2))
+      (l .threads) (5 + 6 * l .variables) (l .instructions) (h .sections) t;
+}
+
+-- ---- from judging: derivations
+
+derived-nothing : (p : Program) (t : ℕ) → Derived p t []
+unfolding structured structure
+derived-nothing p t = (_, _, typed-done)
+
+derived-thread : (p : Program) (t : ℕ) (section : CodeSection) {r : List ℕ} → WellFormed (structured (section .code))
+    → judgeThread p t section ≡ fine r → Derived p t (section .code)
+unfolding judgeThread
+derived-thread p t section w e =
+    bind-fine (judge p t (section .start) empty (structured (section .code))) _ e λ r f g.
+    (r .locks, r .atomicity, judge-typed p t (structured (section .code)) w (section .start) empty f)
+
+derived-threads : (p : Program) (n : ℕ) (l : List CodeSection) {r : List ℕ} → judgeThreads p n l ≡ fine r
+    → (t : ℕ) → WellFormed (structured (getD l t noSection .code)) → Derived p (n + t) (getD l t noSection .code)
+unfolding judgeThreads
+derived-threads p n [] e t w = derived-nothing p (n + t)
+derived-threads p n (x ∷ l) e zero w =
+    bind-fine (judgeThread p n x) _ e λ r f g.
+    subst (λ (m : ℕ). Derived p m (x .code)) (sym (add-zero n)) (derived-thread p n x w f)
+derived-threads p n (x ∷ l) e (suc t) w =
+    bind-fine (judgeThread p n x) _ e λ r f g.
+    bind-fine (judgeThreads p (suc n) l) _ g λ rs f′ g′.
+    subst (λ (m : ℕ). Derived p m (getD l t noSection .code)) (omega arith) (derived-threads p (suc n) l f′ t w)
+
+derived : (p : Program) {r : List ℕ} → judgeProgram p ≡ fine r → (t : ℕ) → WellFormed (structured (codeOf p t)) → Derived p t (codeOf p t)
+unfolding judgeProgram codeOf
+derived p e t w = subst (λ (m : ℕ). Derived p m (getD (p .threads) t noSection .code)) (zero-add t) (derived-threads p 0 (p .threads) e t w)
+
+-- each thread of a well nested program that is judged well is annotated
+pub judged-annotated : (p : Program) {r : List ℕ} → WellNested p → judgeProgram p ≡ fine r → (t : ℕ) → Annotated p t
+judged-annotated p n e t =
+    let (_, _, d) = derived p e t (n .writes t .well-formed) in
+    annotated p t d (n .writes t .flat-is) (n .takes t)

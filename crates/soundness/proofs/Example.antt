@@ -1,0 +1,88 @@
+-- Demand 3 is not empty: its premises hold of a file and a list that interleaves two blocks (`adders-interrupted`), so that the list that
+-- it promises is another (`adders-serialized`). Computed. Assumes nothing.
+use Prim.Native.Nat.{ℕ, zero, suc, _<_}
+use native.Mathlib.Omega.{arith}
+use mathlib.Core.Path.{_≡_, refl, subst}
+use mathlib.Core.Logic.{_≢_}
+use mathlib.Core.Bool.{Bool, true, false, _&&_}
+use mathlib.Core.List.{List, [], _∷_}
+use lib.ListN.{length, getD}
+use lib.Dec.{T, ltb, ltb→lt, lit<}
+use Rattle.atomicity.specs.Atomicity.{composition, join}
+use Rattle.program.specs.Choice.{firstBad, fine}
+use Rattle.program.specs.Field.{present, byteField, pairField, section}
+use Rattle.program.specs.Variable.{recorded, recordAt, variableAt}
+use Rattle.program.specs.Instruction.{decode, decodeAt, formOf}
+use Rattle.program.specs.Nesting.{named, unnamed, opening, passing, atElse, atAgain, atEnd, nest, atCodeEnd, firstBroken}
+use Rattle.program.specs.Layout.{instructionsAt, variablesAt, threadsAt, programOf, variableSection, codeSection, codeSections, fields, reading}
+use Rattle.program.specs.Code.{size, elseDistance, structure, structured}
+use Rattle.judge.specs.LockSet.{empty, holds, withLock, withoutLock, sameFlags, same}
+use Rattle.judge.specs.Discipline.{kindAt, permits, locksAfter, accessAtomicity, atomicityOf}
+use Rattle.judge.specs.Judging.{isTop, judge, judgeThread, judgeThreads, judgeProgram}
+use Rattle.judge.specs.Acceptance.{sound, accept}
+use Rattle.machine.specs.State.{fresh, start, codeOf, threadOf}
+use Rattle.machine.specs.Step.{accessOf, waits, valueRead, variablesAfter, locksAfter as machine-locksAfter, registersAfter, branch, placeAfter, threadAfter, instructionOf, moveBy, outcome, step}
+use Rattle.machine.specs.Run.{runFrom, run}
+use Rattle.machine.specs.Block.{covers, coveredFrom, inside, OthersOutside, NobodyInside, UninterruptedFrom, Uninterrupted}
+use Rattle.soundness.specs.Demand.{ThreadsOf, Serialized}
+use Rattle.soundness.specs.Example.{adder, adders, interleaving, Interrupted, acceptedOf}
+
+-- all definitions open
+unfoldable definitions : Unit {0}
+unfolding composition join firstBad present byteField pairField section recorded recordAt variableAt decode decodeAt formOf named unnamed opening passing atElse atAgain atEnd nest atCodeEnd firstBroken instructionsAt variablesAt threadsAt programOf variableSection codeSection codeSections fields reading size elseDistance structure structured empty holds withLock withoutLock sameFlags same kindAt permits locksAfter accessAtomicity atomicityOf isTop judge judgeThread judgeThreads judgeProgram sound accept fresh start codeOf threadOf accessOf waits valueRead variablesAfter machine-locksAfter registersAfter branch placeAfter threadAfter instructionOf moveBy outcome step runFrom run covers coveredFrom inside OthersOutside NobodyInside UninterruptedFrom Uninterrupted ThreadsOf adder adders interleaving acceptedOf
+definitions = tt
+
+-- each entry is below n
+abbrev allBelow : ℕ → List ℕ → Bool
+allBelow n [] = true
+allBelow n (t ∷ ts) = ltb t n && allBelow n ts
+
+all-below : (n : ℕ) (ts : List ℕ) → T (allBelow n ts) → (i : ℕ) → i < length ts → getD ts i 0 < n
+all-below n [] h i l = absurd (omega arith)
+all-below n (t ∷ ts) h zero l = ltb→lt t n (first (ltb t n) (allBelow n ts) h)
+  where
+    first : (a b : Bool) → T (a && b) → T a
+    first true b h = tt
+    first false b h = h
+all-below n (t ∷ ts) h (suc i) l = all-below n ts (second (ltb t n) (allBelow n ts) h) i (omega arith)
+  where
+    second : (a b : Bool) → T (a && b) → T b
+    second true b h = h
+    second false b h = absurd h
+
+-- both threads have added 1
+pub adders-sum : run (acceptedOf (accept adders) .program) interleaving .state .variables ≡ 7 ∷ []
+unfolding definitions
+adders-sum = refl
+
+adders-accepted : accept adders ≡ fine (acceptedOf (accept adders))
+unfolding definitions
+adders-accepted = refl
+
+adders-threads : ThreadsOf (acceptedOf (accept adders) .program) interleaving
+unfolding definitions
+adders-threads = all-below 2 interleaving tt
+
+adders-nobody : NobodyInside (acceptedOf (accept adders) .program) (run (acceptedOf (accept adders) .program) interleaving .state)
+unfolding definitions
+adders-nobody zero h = refl
+adders-nobody (suc zero) h = refl
+adders-nobody (suc (suc u)) h = absurd (omega arith)
+
+-- thread 1 moves while thread 0 stands inside its block
+adders-uninterrupted : Uninterrupted (acceptedOf (accept adders) .program) interleaving → ⊥
+unfolding definitions
+adders-uninterrupted h = let e : true ≡ false = h .2 .1 0 (lit< tt) (λ e. omega arith) in let z : _≡_ {A = ℕ} 0 1 = cc in omega arith
+
+pub adders-interrupted : Interrupted adders interleaving
+adders-interrupted = record {
+  answer = acceptedOf (accept adders);
+  accepted = adders-accepted;
+  threads = adders-threads;
+  nobody = adders-nobody;
+  interrupted = adders-uninterrupted;
+}
+
+-- the list that demand 3 promises is another
+pub adders-serialized : (r : Serialized (adders-interrupted .answer .program) interleaving) → r .serial ≢ interleaving
+adders-serialized r e = adders-interrupted .interrupted (subst (Uninterrupted (adders-interrupted .answer .program)) e (r .uninterrupted))

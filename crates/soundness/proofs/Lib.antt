@@ -1,0 +1,41 @@
+-- Demand 3, proved.
+--
+-- From the rules to the places of the code:
+--     Typing        judging finds a derivation of the rules
+--     Prefix        prefixes of blocks, and what a move's ends say of its atomicity
+--     Annotation    typed code written out flat, and read place by place
+--     Flow          wherever a thread goes, the row there follows
+--     Coverage      a place is covered by an ATOMIC exactly if its row is inside a block
+--     Annotated     so typed code is annotated
+-- The machine:
+--     Access        an instruction by its shared access
+--     Owns          a move keeps the locks held
+--     Independent   accesses of two threads that may swap are independent
+--     Move          one move, and the invariant
+--     Commute       two moves commute
+--     Instance      the machine obeys the laws of movers
+--     Naming        naming the moves changes nothing of a run
+--     Traced        a list as a trace, and back
+--     Serialize     demand 3 for annotated programs
+-- The file:
+--     Accepted      an accepted file's program is annotated
+--     Demand        demand 3
+--     Example       it is not empty
+pub mod Typing
+pub mod Prefix
+pub mod Annotation
+pub mod Flow
+pub mod Coverage
+pub mod Annotated
+pub mod Access
+pub mod Owns
+pub mod Independent
+pub mod Move
+pub mod Commute
+pub mod Instance
+pub mod Naming
+pub mod Traced
+pub mod Serialize
+pub mod Accepted
+pub mod Demand
+pub mod Example

@@ -1,0 +1,82 @@
+-- The moves that a list makes: who moves, from which place with which registers, and in which block. A block is named by its thread and
+-- how many blocks that thread had finished before; a move outside every block is a block of one.
+use Prim.Native.Nat.{ℕ, suc}
+use mathlib.Core.Bool.{Bool, true, false}
+use mathlib.Core.List.{List, [], _∷_}
+use lib.ListN.{length, getD, set, replicate}
+use Rattle.machine.specs.Block.{inside}
+use Rattle.machine.specs.State.{State, start, threadOf}
+use Rattle.machine.specs.Step.{instructionOf, moveBy, outcome}
+use Rattle.machine.specs.declared.thread.Outcome.{Outcome}
+use Rattle.machine.specs.declared.thread.Outcome.the-variants.{Moved, Waiting, Idle}
+use Rattle.machine.specs.declared.thread.Thread.{Thread}
+use Rattle.program.specs.Layout.{Program}
+
+pub record BlockName : Type 0 where
+  pub thread : ℕ
+  pub number : ℕ
+
+pub record Move : Type 0 where
+  pub thread : ℕ
+  pub number : ℕ
+  pub before : Thread
+
+unfoldable pub blockName : Move → BlockName
+blockName m = record { thread = m .thread; number = m .number }
+
+-- a state, and how many blocks each thread has finished
+pub record Named : Type 0 where
+  pub machine : State
+  pub finished : List ℕ
+
+unfoldable pub namedStart : Program → Named
+namedStart p = record { machine = start p; finished = replicate (length (p .threads)) 0 }
+
+-- the block that thread t is in, or the next one
+unfoldable pub blockOf : Named → ℕ → BlockName
+blockOf g t = record { thread = t; number = getD (g .finished) t 0 }
+
+-- the move that thread t makes next
+unfoldable pub moveOf : Named → ℕ → Move
+moveOf g t = record { thread = t; number = getD (g .finished) t 0; before = threadOf (g .machine) t }
+
+-- the state after it
+unfoldable pub moved : Program → ℕ → State → State
+moved p t s = moveBy (instructionOf p t s) t s
+
+-- a block that the thread still stands in is not finished
+abbrev pub finishedAfter : (inside : Bool) → ℕ → ℕ
+finishedAfter true n = n
+finishedAfter false n = suc n
+
+unfoldable pub movedNamed : Program → ℕ → Named → Named
+movedNamed p t g = record {
+  machine = moved p t (g .machine);
+  finished = set (g .finished) t (finishedAfter (inside p (moved p t (g .machine)) t) (getD (g .finished) t 0));
+}
+
+-- an entry of the list that does not move changes nothing
+abbrev pub afterNamed : Outcome → (unchanged moved : Named) → Named
+afterNamed Moved g g′ = g′
+afterNamed Waiting g g′ = g
+afterNamed Idle g g′ = g
+
+abbrev pub stepNamed : Program → ℕ → Named → Named
+stepNamed p t g = afterNamed (outcome p t (g .machine)) g (movedNamed p t g)
+
+unfoldable pub runNamed : Program → Named → List ℕ → Named
+runNamed p g [] = g
+runNamed p g (t ∷ ts) = runNamed p (stepNamed p t g) ts
+
+-- the moves of a list, in order
+abbrev pub alsoMoved : Outcome → Move → List Move → List Move
+alsoMoved Moved m ms = m ∷ ms
+alsoMoved Waiting m ms = ms
+alsoMoved Idle m ms = ms
+
+unfoldable pub movesFrom : Program → Named → List ℕ → List Move
+movesFrom p g [] = []
+movesFrom p g (t ∷ ts) = alsoMoved (outcome p t (g .machine)) (moveOf g t) (movesFrom p (stepNamed p t g) ts)
+
+unfoldable pub moves : Program → List ℕ → List Move
+moves p ts = movesFrom p (namedStart p) ts
