@@ -10,3 +10,4 @@ pub mod Step
 pub mod Run
 pub mod Block
 pub mod Registers
+pub mod Reached

@@ -1,2 +1,3 @@
 // The step machine (document 01, "The step machine").
 pub mod thread;
+pub mod entry;
