@@ -11,3 +11,4 @@ pub mod Run
 pub mod Block
 pub mod Registers
 pub mod Reached
+pub mod Kept

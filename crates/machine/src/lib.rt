@@ -1,3 +1,4 @@
 // The step machine (document 01, "The step machine").
 pub mod thread;
 pub mod entry;
+pub mod run;

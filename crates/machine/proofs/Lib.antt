@@ -1,0 +1,3 @@
+-- Laws that belong to no one function.
+--     Kept   the state in arrays, through an entry
+pub mod Kept

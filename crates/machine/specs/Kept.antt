@@ -1,0 +1,53 @@
+-- The state and the program as `run_list` keeps them, which only functions inside the crate ask: in arrays of the largest size, of which
+-- the first elements count; and where in the file each thread's code lies.
+use Prim.Native.Nat.{ℕ, _+_, _*_, _≤_, _<_}
+use mathlib.Core.Path.{_≡_}
+use mathlib.Core.List.{List, []}
+use lib.ListN.{length, getD, take, replicate}
+use Rattle.program.specs.Layout.{programOf, instructionsAt}
+use Rattle.program.specs.Nesting.{firstBroken}
+use Rattle.program.specs.declared.found.Found.the-variants.{Nowhere}
+use Rattle.program.specs.declared.layout.Layout.{Layout}
+use Rattle.machine.specs.State.{State, codeOf, fresh}
+use Rattle.machine.specs.Run.{Run, Counts}
+use Rattle.machine.specs.declared.run.Tally.{Tally}
+use Rattle.machine.specs.declared.run.Ran.{Ran}
+use Rattle.machine.specs.declared.thread.Thread.{Thread}
+
+-- the state in arrays
+abbrev pub stateIn : Layout → (variables locks : List ℕ) → List Thread → State
+stateIn l variables locks threads = record
+  { variables = take (l .variables) variables
+  ; locks = take (l .locks) locks
+  ; threads = take (l .threads) threads
+  }
+
+-- the counts, as the code has them
+abbrev pub countsOf : Tally → Counts
+countsOf c = record { moved = c .moved; waiting = c .waiting; idle = c .idle }
+
+-- the variables and locks of some moment, every thread at its start, nothing counted
+abbrev pub fromHere : Layout → (variables locks : List ℕ) → Run
+fromHere l variables locks = record { counts = record { moved = 0; waiting = 0; idle = 0 }; state = stateIn l variables locks (replicate 8 fresh) }
+
+-- what is left and counted
+abbrev pub ranIn : Layout → Ran → (variables locks : List ℕ) → Run
+ranIn l r variables locks = record { counts = countsOf (r .tally); state = stateIn l variables locks (r .threads) }
+
+-- a thread's code lies in the file from its start on, is short, and is well nested
+pub record Located (s : List ℕ) (l : Layout) (start size t : ℕ) : Type 0 where
+  pub code : codeOf (programOf s l) t ≡ instructionsAt (l .locks) (l .variables) s size start
+  pub inside : start + 4 * size ≤ length s
+  pub short : size ≤ 1024
+  pub nested : firstBroken 0 (codeOf (programOf s l) t) [] ≡ Nowhere
+
+-- the file's counts fit the arrays, and each thread's code is found
+pub record Prepared (s : List ℕ) (l : Layout) (starts sizes : List ℕ) : Type 0 where
+  pub locks : l .locks ≤ 16
+  pub threads : l .threads ≤ 8
+  pub variables : l .variables ≤ 64
+  pub sections : (t : ℕ) → t < l .threads → Located s l (getD starts t 0) (getD sizes t 0) t
+
+-- every entry names a thread
+unfoldable pub Entries : Layout → List ℕ → Type 0
+Entries l list = (i : ℕ) → i < length list → getD list i 0 < l .threads
