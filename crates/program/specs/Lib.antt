@@ -7,6 +7,7 @@
 --     Nesting      entries and named places
 --     Layout       the whole file, front to back, and its contents
 --     Code         structured code
+--     Sound        what a sound file is known to hold (for proofs)
 pub mod Refusal
 pub mod Choice
 pub mod Field
@@ -15,3 +16,4 @@ pub mod Instruction
 pub mod Nesting
 pub mod Layout
 pub mod Code
+pub mod Sound
