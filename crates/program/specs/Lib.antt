@@ -8,6 +8,7 @@
 --     Layout       the whole file, front to back, and its contents
 --     Code         structured code
 --     Sound        what a sound file is known to hold (for proofs)
+--     WellFormed   structured code that a file can hold; for a theorem only
 pub mod Refusal
 pub mod Choice
 pub mod Field
@@ -17,3 +18,4 @@ pub mod Nesting
 pub mod Layout
 pub mod Code
 pub mod Sound
+pub mod WellFormed

@@ -1,0 +1,99 @@
+use Prim.Native.Nat.{ℕ, zero, suc, _+_, _≤_, _<_}
+use native.Mathlib.Nat.{add-zero, zero-add, add-suc, suc-add}
+use native.Mathlib.Omega.{arith}
+use mathlib.Core.Path.{_≡_, refl, sym, ap, _∙_, subst}
+use mathlib.Core.List.{List, [], _∷_}
+use lib.ListN.{length, getD}
+use Rattle.program.specs.declared.found.Found.the-variants.{Nowhere}
+use Rattle.program.specs.declared.instruction.Instruction.{Instruction}
+use Rattle.program.specs.declared.instruction.Instruction.the-variants as instruction
+use Rattle.program.specs.declared.instruction.Form.{Form}
+use Rattle.program.specs.declared.instruction.Form.the-variants.{Plain, If, Else, While, Again, Atomic, End}
+use Rattle.program.specs.declared.nesting.Entry.{Entry}
+use Rattle.program.specs.declared.nesting.Entry.the-variants as entry
+use Rattle.program.specs.Instruction.{formOf}
+use Rattle.program.specs.Nesting.{named, firstBroken}
+use Rattle.program.specs.WellFormed.{Passes, Closes, at-code-end, at-else, at-again, at-choice-end, at-block-end, Turn, closes, at-plain, at-if, at-while, at-atomic}
+use Rattle.program.proofs.StructureTurn.{turn}
+
+-- ---- what is carried along
+
+-- the jump of an instruction at place p, in code of q instructions
+abbrev Jump : ℕ → ℕ → Form → Type 0
+Jump q p Plain = Unit
+Jump q p (If a n) = p + n < q
+Jump q p (Else n) = p + n < q
+Jump q p (While a n) = p + n < q
+Jump q p (Again n) = n ≤ p
+Jump q p (Atomic n) = p + n < q
+Jump q p End = Unit
+
+-- those of the instructions from place p on
+Jumps : ℕ → ℕ → List Instruction → Type 0
+Jumps q p [] = Unit
+Jumps q p (i ∷ is) = Jump q p (formOf i) × Jumps q (suc p) is
+
+-- the places that open entries name lie before q
+Inside : ℕ → List Entry → Type 0
+Inside q [] = Unit
+Inside q (e ∷ es) = (named e < q) × Inside q es
+
+-- a WHILE's distance leads back from the place it names to itself
+FromLoop : Entry → Type 0
+FromLoop (entry.Then w) = Unit
+FromLoop (entry.Else w) = Unit
+FromLoop (entry.Loop w n) = n ≤ w
+FromLoop (entry.Block w) = Unit
+
+FromLoops : List Entry → Type 0
+FromLoops [] = Unit
+FromLoops (e ∷ es) = FromLoop e × FromLoops es
+
+module _ {q p : ℕ} where
+  jumps-turn : {i : Instruction} {is : List Instruction} {es : List Entry} → p < q
+    → ((es : List Entry) → FromLoops es → Passes (suc p) is es → Inside q es × Jumps q (suc p) is)
+    → FromLoops es → Turn p (i ∷ is) es → Inside q es × (Jump q p (formOf i) × Jumps q (suc p) is)
+  unfolding Inside FromLoop FromLoops named formOf
+  jumps-turn {es = es} l next f (at-plain e h) = let t = next es f h in (t .0, (subst (Jump q p) (sym e) tt, t .1))
+  jumps-turn {es = es} l next f (at-if {n = n} s h) = let t = next (entry.Then (p + n) ∷ es) (tt, f) h in (t .0 .1, (t .0 .0, t .1))
+  jumps-turn {es = es} l next f (at-while {n = n} s h) = let t = next (entry.Loop (p + n) n ∷ es) (omega arith, f) h in (t .0 .1, (t .0 .0, t .1))
+  jumps-turn {es = es} l next f (at-atomic {n = n} s h) = let t = next (entry.Block (p + n) ∷ es) (tt, f) h in (t .0 .1, (t .0 .0, t .1))
+  jumps-turn l next f (closes (at-else {n} {w} {es = es} e h)) = let t = next (entry.Else (p + n) ∷ es) (tt, f .1) (rw e at h) in ((omega arith, t .0 .1), (t .0 .0, t .1))
+  jumps-turn l next f (closes (at-again {n} {w} {es = es} e h)) = let t = next es (f .1) (rw e at h) in ((omega arith, t .0), (rw e at (f .0), t .1))
+  jumps-turn l next f (closes (at-choice-end {w} {es = es} e h)) = let t = next es (f .1) (rw e at h) in ((omega arith, t .0), (tt, t .1))
+  jumps-turn l next f (closes (at-block-end {w} {es = es} e h)) = let t = next es (f .1) (rw e at h) in ((omega arith, t .0), (tt, t .1))
+
+no-entry : (q : ℕ) {p : ℕ} {es : List Entry} → Turn p [] es → Inside q es
+unfolding Inside
+no-entry q (closes at-code-end) = tt
+
+jumps-all : (q p : ℕ) (is : List Instruction) (es : List Entry) → p + length is ≡ q → FromLoops es → Passes p is es → Inside q es × Jumps q p is
+unfolding Inside Jumps
+jumps-all q p [] es e f h = (no-entry q (turn p [] es h), tt)
+jumps-all q p (i ∷ is) es e f h = jumps-turn (omega arith) (λ es f h. jumps-all q (suc p) is es (omega arith) f h) f (turn p (i ∷ is) es h)
+
+jump-at : (q p : ℕ) (is : List Instruction) (i : ℕ) → i < length is → Jumps q p is → Jump q (p + i) (formOf (getD is i instruction.End))
+unfolding Jumps
+jump-at q p [] i l j = absurd (omega arith)
+jump-at q p (x ∷ is) zero l j = rw add-zero (j .0)
+jump-at q p (x ∷ is) (suc i) l j = rw (add-suc, ← (suc-add p i)) (jump-at q (suc p) is i (omega arith) (j .1))
+
+module _ (is : List Instruction) (h : firstBroken 0 is [] ≡ Nowhere) (i : ℕ) (l : i < length is) where
+  jump : Jump (length is) i (formOf (getD is i instruction.End))
+  unfolding FromLoops
+  jump = rw zero-add at (jump-at (length is) 0 is i l (jumps-all (length is) 0 is [] (zero-add (length is)) tt h .1))
+
+  pub jump-if : (r n : ℕ) → formOf (getD is i instruction.End) ≡ If r n → i + n < length is
+  jump-if r n e = rw e at jump
+
+  pub jump-else : (n : ℕ) → formOf (getD is i instruction.End) ≡ Else n → i + n < length is
+  jump-else n e = rw e at jump
+
+  pub jump-while : (r n : ℕ) → formOf (getD is i instruction.End) ≡ While r n → i + n < length is
+  jump-while r n e = rw e at jump
+
+  pub jump-again : (n : ℕ) → formOf (getD is i instruction.End) ≡ Again n → n ≤ i
+  jump-again n e = rw e at jump
+
+  pub jump-atomic : (n : ℕ) → formOf (getD is i instruction.End) ≡ Atomic n → i + n < length is
+  jump-atomic n e = rw e at jump

@@ -1,0 +1,166 @@
+use Prim.Native.Nat.{ℕ, zero, suc, _+_, _-_, _≤_, _<_, max}
+use native.Mathlib.Omega.{arith}
+use mathlib.Core.Path.{_≡_, refl, sym, ap, _∙_, subst}
+use mathlib.Core.List.{List, [], _∷_, _++_, append-assoc, append-nil}
+use lib.ListN.{length, length-append}
+use Rattle.program.specs.declared.found.Found.the-variants.{Nowhere}
+use Rattle.program.specs.declared.instruction.Instruction.{Instruction}
+use Rattle.program.specs.declared.instruction.Instruction.the-variants as instruction
+use Rattle.program.specs.declared.instruction.Form.the-variants.{Plain}
+use Rattle.program.specs.declared.nesting.Entry.{Entry}
+use Rattle.program.specs.declared.nesting.Entry.the-variants as entry
+use Rattle.program.specs.Instruction.{formOf}
+use Rattle.program.specs.Nesting.{firstBroken}
+use Rattle.program.specs.Code.{Code, done, plain, choice, loop, block, size, flat, structured}
+use Rattle.program.specs.WellFormed.{WellFormed, depth, Writes, Passes, Closes, at-code-end, at-else, at-again, at-choice-end, at-block-end, Turn, closes, at-plain, at-if, at-while, at-atomic, Parsed, Body, Parser}
+use Rattle.program.proofs.StructureFlat.{length-flat, structured-flat}
+use Rattle.program.proofs.StructureTurn.{turn}
+
+-- ---- the body of an opener
+
+module _ {q w : ℕ} {is : List Instruction} {es : List Entry} where
+  body-then : Parsed q is (entry.Then w ∷ es) → (n : ℕ) × Body q w is es (entry.Else (w + n) ∷ es) (instruction.Else n)
+  body-then a = go (a .stops) (a .split)
+    where
+      go : {rest : List Instruction} → Closes (q + size (a .code)) rest (entry.Then w ∷ es) → flat (a .code) ++ rest ≡ is
+        → (n : ℕ) × Body q w is es (entry.Else (w + n) ∷ es) (instruction.Else n)
+      go (at-else {n} {is = after} e h) s =
+        (n, record { code = a .code; after = after; split = s; well-formed = a .well-formed; shallow = a .shallow; place = e; passes = h })
+
+  body-else : Parsed q is (entry.Else w ∷ es) → Body q w is es es instruction.End
+  body-else a = go (a .stops) (a .split)
+    where
+      go : {rest : List Instruction} → Closes (q + size (a .code)) rest (entry.Else w ∷ es) → flat (a .code) ++ rest ≡ is → Body q w is es es instruction.End
+      go (at-choice-end {is = after} e h) s =
+        record { code = a .code; after = after; split = s; well-formed = a .well-formed; shallow = a .shallow; place = e; passes = h }
+
+  body-while : {n : ℕ} → Parsed q is (entry.Loop w n ∷ es) → Body q w is es es (instruction.Again n)
+  body-while {n} a = go (a .stops) (a .split)
+    where
+      go : {rest : List Instruction} → Closes (q + size (a .code)) rest (entry.Loop w n ∷ es) → flat (a .code) ++ rest ≡ is → Body q w is es es (instruction.Again n)
+      go (at-again {is = after} e h) s =
+        record { code = a .code; after = after; split = s; well-formed = a .well-formed; shallow = a .shallow; place = e; passes = h }
+
+  body-atomic : Parsed q is (entry.Block w ∷ es) → Body q w is es es instruction.End
+  body-atomic a = go (a .stops) (a .split)
+    where
+      go : {rest : List Instruction} → Closes (q + size (a .code)) rest (entry.Block w ∷ es) → flat (a .code) ++ rest ≡ is → Body q w is es es instruction.End
+      go (at-block-end {is = after} e h) s =
+        record { code = a .code; after = after; split = s; well-formed = a .well-formed; shallow = a .shallow; place = e; passes = h }
+
+-- a body and what stands after its closer are as long as what was read
+body-length : {q w : ℕ} {is : List Instruction} {es es′ : List Entry} {i : Instruction} (a : Body q w is es es′ i) → size (a .code) + suc (length (a .after)) ≡ length is
+body-length {i = i} a = rw (← (length-flat (a .code)), ← (a .split), length-append (flat (a .code)) (i ∷ a .after))
+
+-- ---- the flat writing of the whole, from that of the parts
+
+split-loop : (r n : ℕ) (a c : Code) (after rest is : List Instruction) → n ≡ size a + 1 → flat a ++ (instruction.Again n ∷ after) ≡ is → flat c ++ rest ≡ after
+    → flat (loop r a c) ++ rest ≡ instruction.While r n ∷ is
+unfolding flat
+split-loop r n a c after rest is e f g = rw (← f, ← g, e, append-assoc)
+
+split-block : (n : ℕ) (a c : Code) (after rest is : List Instruction) → n ≡ size a + 1 → flat a ++ (instruction.End ∷ after) ≡ is → flat c ++ rest ≡ after
+    → flat (block a c) ++ rest ≡ instruction.Atomic n ∷ is
+unfolding flat
+split-block n a c after rest is e f g = rw (← f, ← g, e, append-assoc)
+
+split-choice : (r n m : ℕ) (a b c : Code) (after after′ rest is : List Instruction) → n ≡ size a + 1 → m ≡ size b + 1
+    → flat a ++ (instruction.Else m ∷ after) ≡ is → flat b ++ (instruction.End ∷ after′) ≡ after → flat c ++ rest ≡ after′
+    → flat (choice r a b c) ++ rest ≡ instruction.If r n ∷ is
+unfolding flat
+split-choice r n m a b c after after′ rest is e e′ f f′ g = rw (← f, ← f′, ← g, e, e′, append-assoc, append-assoc)
+
+-- ---- reading a construct: its parts, then the whole
+
+module _ {p : ℕ} {is : List Instruction} {es : List Entry} where
+  join-plain : (i : Instruction) → formOf i ≡ Plain → Parsed (suc p) is es → Parsed p (i ∷ is) es
+  unfolding flat size depth WellFormed
+  join-plain i e c = record
+    { code = plain i (c .code)
+    ; rest = c .rest
+    ; split = ap {B = List Instruction} (λ x. i ∷ x) (c .split)
+    ; well-formed = (e, c .well-formed)
+    ; shallow = c .shallow
+    ; stops = subst (λ (q : ℕ). Closes q (c .rest) es) (omega arith) (c .stops)
+    }
+
+  join-choice : (r n m : ℕ) (a : Body (suc p) (p + n) is es (entry.Else (p + n + m) ∷ es) (instruction.Else m))
+      (b : Body (suc (p + n)) (p + n + m) (a .after) es es instruction.End) → Parsed (suc (p + n + m)) (b .after) es → Parsed p (instruction.If r n ∷ is) es
+  unfolding size depth WellFormed
+  join-choice r n m a b c = record
+    { code = choice r (a .code) (b .code) (c .code)
+    ; rest = c .rest
+    ; split = split-choice r n m (a .code) (b .code) (c .code) (a .after) (b .after) (c .rest) is (omega arith) (omega arith) (a .split) (b .split) (c .split)
+    ; well-formed = (a .well-formed, b .well-formed, c .well-formed)
+    ; shallow = omega arith
+    ; stops = subst (λ (q : ℕ). Closes q (c .rest) es) (omega arith) (c .stops)
+    }
+
+  join-loop : (r n : ℕ) (a : Body (suc p) (p + n) is es es (instruction.Again n)) → Parsed (suc (p + n)) (a .after) es → Parsed p (instruction.While r n ∷ is) es
+  unfolding size depth WellFormed
+  join-loop r n a c = record
+    { code = loop r (a .code) (c .code)
+    ; rest = c .rest
+    ; split = split-loop r n (a .code) (c .code) (a .after) (c .rest) is (omega arith) (a .split) (c .split)
+    ; well-formed = (a .well-formed, c .well-formed)
+    ; shallow = omega arith
+    ; stops = subst (λ (q : ℕ). Closes q (c .rest) es) (omega arith) (c .stops)
+    }
+
+  join-block : (n : ℕ) (a : Body (suc p) (p + n) is es es instruction.End) → Parsed (suc (p + n)) (a .after) es → Parsed p (instruction.Atomic n ∷ is) es
+  unfolding size depth WellFormed
+  join-block n a c = record
+    { code = block (a .code) (c .code)
+    ; rest = c .rest
+    ; split = split-block n (a .code) (c .code) (a .after) (c .rest) is (omega arith) (a .split) (c .split)
+    ; well-formed = (a .well-formed, c .well-formed)
+    ; shallow = omega arith
+    ; stops = subst (λ (q : ℕ). Closes q (c .rest) es) (omega arith) (c .stops)
+    }
+
+-- the code is done
+parse-closes : {p : ℕ} {is : List Instruction} {es : List Entry} → length es ≤ 16 → Closes p is es → Parsed p is es
+unfolding flat size depth WellFormed
+parse-closes {p} {is} {es} m h = record
+  { code = done; rest = is; split = refl; well-formed = tt; shallow = omega arith; stops = subst (λ (q : ℕ). Closes q is es) (omega arith) h }
+
+-- one construct, with a parser for what is shorter
+parse-turn : {k p : ℕ} {is : List Instruction} {es : List Entry} → Parser k → length is < suc k → length es ≤ 16 → Turn p is es → Parsed p is es
+parse-turn parser l m (closes c) = parse-closes m c
+parse-turn {p} {es} parser l m (at-plain {i} {is = is} e h) = join-plain i e (parser (suc p) is es (omega arith) m h)
+parse-turn {p} {es} parser l m (at-if {r} {n} {is = is} s h) =
+  let (d, a) = body-then (parser (suc p) is (entry.Then (p + n) ∷ es) (omega arith) s h) in
+  let la = body-length a in
+  let b = body-else (parser (suc (p + n)) (a .after) (entry.Else (p + n + d) ∷ es) (omega arith) s (a .passes)) in
+  join-choice r n d a b (parser (suc (p + n + d)) (b .after) es (omega (arith, body-length b)) m (b .passes))
+parse-turn {p} {es} parser l m (at-while {r} {n} {is = is} s h) =
+  let a = body-while (parser (suc p) is (entry.Loop (p + n) n ∷ es) (omega arith) s h) in
+  join-loop r n a (parser (suc (p + n)) (a .after) es (omega (arith, body-length a)) m (a .passes))
+parse-turn {p} {es} parser l m (at-atomic {n} {is = is} s h) =
+  let a = body-atomic (parser (suc p) is (entry.Block (p + n) ∷ es) (omega arith) s h) in
+  join-block n a (parser (suc (p + n)) (a .after) es (omega (arith, body-length a)) m (a .passes))
+
+-- every scan that passes reads some code
+parse : (k : ℕ) → Parser k
+parse zero p is es l m h = absurd (omega arith)
+parse (suc k) p is es l m h = parse-turn (parse k) l m (turn p is es h)
+
+-- with no entry open it reads everything
+parsed-all : {is : List Instruction} → Parsed 0 is [] → (c : Code) × Writes is c
+parsed-all {is} a = go (a .stops) (a .split)
+  where
+    go : {rest : List Instruction} → Closes (0 + size (a .code)) rest [] → flat (a .code) ++ rest ≡ is → (c : Code) × Writes is c
+    go at-code-end s =
+      (a .code, record { flat-is = sym (append-nil (flat (a .code))) ∙ s; well-formed = a .well-formed; shallow = omega arith })
+
+-- ---- the theorem, from the scan to the code
+
+-- there is one code only that instructions write out: the one read from them
+pub writes-structured : {is : List Instruction} {c : Code} → Writes is c → c ≡ structured is
+writes-structured {c = c} w = sym (structured-flat c (w .well-formed)) ∙ ap structured (w .flat-is)
+
+-- instructions whose nesting the scan passes are the flat writing of the code read from them
+pub nested-flat : (is : List Instruction) → firstBroken 0 is [] ≡ Nowhere → Writes is (structured is)
+nested-flat is h =
+  let (c, w) = parsed-all (parse (suc (length is)) 0 is [] (omega arith) (omega arith) h) in
+  subst (Writes is) (writes-structured w) w

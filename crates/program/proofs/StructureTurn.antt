@@ -1,0 +1,104 @@
+use Prim.Native.Nat.{ℕ, suc, _+_, _<_}
+use native.Mathlib.Omega.{arith}
+use mathlib.Core.Bool.{Bool, true, false, _&&_, not}
+use mathlib.Core.Path.{_≡_, refl}
+use mathlib.Core.List.{List, [], _∷_}
+use lib.ListN.{length}
+use lib.Dec.{ltb, eqb}
+use borrow.Author.Tests.{ltb-true, eqb-true}
+use Rattle.program.specs.Choice.{choose}
+use Rattle.program.specs.declared.found.Found.{Found}
+use Rattle.program.specs.declared.found.Found.the-variants.{Nowhere, At}
+use Rattle.program.specs.declared.instruction.Instruction.{Instruction}
+use Rattle.program.specs.declared.instruction.Instruction.the-variants.{Set, Copy, Add, Sub, Less, Read, Write, Take, Give, If, Else, While, Again, Atomic, End}
+use Rattle.program.specs.declared.instruction.Form.the-variants.{Plain}
+use Rattle.program.specs.declared.nesting.Entry.{Entry}
+use Rattle.program.specs.declared.nesting.Entry.the-variants as entry
+use Rattle.program.specs.Instruction.{formOf}
+use Rattle.program.specs.Nesting.{broken, opened, unnamed, opening, passing, atElse, atAgain, atEnd, nest, atCodeEnd, goOn, firstBroken}
+use Rattle.program.specs.WellFormed.{Passes, Closes, at-code-end, at-else, at-again, at-choice-end, at-block-end, Turn, closes, at-plain, at-if, at-while, at-atomic}
+
+at≢nowhere : {A : Type 0} {p : ℕ} → At p ≡ Nowhere → A
+at≢nowhere e = let z : _≡_ {A = ℕ} 0 1 = cc in absurd (omega arith)
+
+-- what was tested holds, and the rest passes
+tested : (p : ℕ) (b : Bool) (es : List Entry) (rest : List Entry → Found) → goOn p (choose b (opened es) broken) rest ≡ Nowhere → (b ≡ true) × (rest es ≡ Nowhere)
+tested p true es rest h = (refl, h)
+tested p false es rest h = at≢nowhere h
+
+and-left : (a b : Bool) → (a && b) ≡ true → a ≡ true
+and-left true b h = refl
+and-left false b h = h
+
+and-right : (a b : Bool) → (a && b) ≡ true → b ≡ true
+and-right true b h = h
+and-right false b h = cc
+
+module _ (p : ℕ) (is : List Instruction) (es : List Entry) where
+  turn-plain : (i : Instruction) → formOf i ≡ Plain → Passes p (i ∷ is) es → Turn p (i ∷ is) es
+  unfolding firstBroken nest passing
+  turn-plain i e h = at-plain e (tested p (unnamed p es) es (firstBroken (suc p) is) (rw e at h) .1)
+
+  turn-open : (n : ℕ) (e : Entry) → goOn p (opening p n e es) (firstBroken (suc p) is) ≡ Nowhere → (length es < 16) × Passes (suc p) is (e ∷ es)
+  unfolding opening
+  turn-open n e h =
+    let t = tested p (unnamed p es && not (eqb n 0) && ltb (length es) 16) (e ∷ es) (firstBroken (suc p) is) h in
+    (ltb-true (length es) 16 (and-right (unnamed p es && not (eqb n 0)) (ltb (length es) 16) (t .0)), t .1)
+
+module _ (p : ℕ) (is : List Instruction) where
+  turn-else : (n : ℕ) (es : List Entry) → goOn p (atElse p n es) (firstBroken (suc p) is) ≡ Nowhere → Closes p (Else n ∷ is) es
+  unfolding atElse
+  turn-else n [] h = at≢nowhere h
+  turn-else n (entry.Then w ∷ es) h =
+    let t = tested p (eqb w p && not (eqb n 0)) (entry.Else (p + n) ∷ es) (firstBroken (suc p) is) h in
+    let e = eqb-true w p (and-left (eqb w p) (not (eqb n 0)) (t .0)) in
+    at-else e (rw (← e) at (t .1))
+  turn-else n (entry.Else w ∷ es) h = at≢nowhere h
+  turn-else n (entry.Loop w m ∷ es) h = at≢nowhere h
+  turn-else n (entry.Block w ∷ es) h = at≢nowhere h
+
+  turn-again : (n : ℕ) (es : List Entry) → goOn p (atAgain p n es) (firstBroken (suc p) is) ≡ Nowhere → Closes p (Again n ∷ is) es
+  unfolding atAgain
+  turn-again n [] h = at≢nowhere h
+  turn-again n (entry.Then w ∷ es) h = at≢nowhere h
+  turn-again n (entry.Else w ∷ es) h = at≢nowhere h
+  turn-again n (entry.Loop w m ∷ es) h =
+    let t = tested p (eqb w p && not (eqb n 0) && eqb n m) es (firstBroken (suc p) is) h in
+    let e = eqb-true w p (and-left (eqb w p) (not (eqb n 0)) (and-left (eqb w p && not (eqb n 0)) (eqb n m) (t .0))) in
+    rw (← (eqb-true n m (and-right (eqb w p && not (eqb n 0)) (eqb n m) (t .0)))) (at-again e (rw (← e) at (t .1)))
+  turn-again n (entry.Block w ∷ es) h = at≢nowhere h
+
+  turn-end : (es : List Entry) → goOn p (atEnd p es) (firstBroken (suc p) is) ≡ Nowhere → Closes p (End ∷ is) es
+  unfolding atEnd
+  turn-end [] h = at≢nowhere h
+  turn-end (entry.Then w ∷ es) h = at≢nowhere h
+  turn-end (entry.Else w ∷ es) h =
+    let t = tested p (eqb w p) es (firstBroken (suc p) is) h in
+    let e = eqb-true w p (t .0) in
+    at-choice-end e (rw (← e) at (t .1))
+  turn-end (entry.Loop w m ∷ es) h = at≢nowhere h
+  turn-end (entry.Block w ∷ es) h =
+    let t = tested p (eqb w p) es (firstBroken (suc p) is) h in
+    let e = eqb-true w p (t .0) in
+    at-block-end e (rw (← e) at (t .1))
+
+-- what a scan that passes has come to
+pub turn : (p : ℕ) (is : List Instruction) (es : List Entry) → Passes p is es → Turn p is es
+unfolding firstBroken nest formOf atCodeEnd
+turn p [] [] h = closes at-code-end
+turn p [] (e ∷ es) h = at≢nowhere h
+turn p (Set a n ∷ is) es h = turn-plain p is es (Set a n) refl h
+turn p (Copy a b ∷ is) es h = turn-plain p is es (Copy a b) refl h
+turn p (Add a b c ∷ is) es h = turn-plain p is es (Add a b c) refl h
+turn p (Sub a b c ∷ is) es h = turn-plain p is es (Sub a b c) refl h
+turn p (Less a b c ∷ is) es h = turn-plain p is es (Less a b c) refl h
+turn p (Read a v ∷ is) es h = turn-plain p is es (Read a v) refl h
+turn p (Write a v ∷ is) es h = turn-plain p is es (Write a v) refl h
+turn p (Take k ∷ is) es h = turn-plain p is es (Take k) refl h
+turn p (Give k ∷ is) es h = turn-plain p is es (Give k) refl h
+turn p (If a n ∷ is) es h = let t = turn-open p is es n (entry.Then (p + n)) h in at-if (t .0) (t .1)
+turn p (Else n ∷ is) es h = closes (turn-else p is n es h)
+turn p (While a n ∷ is) es h = let t = turn-open p is es n (entry.Loop (p + n) n) h in at-while (t .0) (t .1)
+turn p (Again n ∷ is) es h = closes (turn-again p is n es h)
+turn p (Atomic n ∷ is) es h = let t = turn-open p is es n (entry.Block (p + n)) h in at-atomic (t .0) (t .1)
+turn p (End ∷ is) es h = closes (turn-end p is es h)
