@@ -1,3 +1,7 @@
 -- Laws that belong to no one function.
---     Kept   the state in arrays, through an entry
+--     Outcome one entry of the list, from the test that decides it
+--     Fields  what a sound file's instruction reaches, and where it goes
+--     Kept    the state in arrays, through one entry
+pub mod Outcome
+pub mod Fields
 pub mod Kept

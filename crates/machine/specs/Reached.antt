@@ -1,18 +1,10 @@
--- What a sound file's instruction guarantees the function that makes its shared access, and only it asks (document 01, "The file": "Every
--- lock, variable and thread named must lie below its count"); and what that function answers.
-use Prim.Native.Nat.{ℕ, _<_}
+-- What the function that makes an instruction's shared access answers and leaves; only functions inside the crate ask.
+use Prim.Native.Nat.{ℕ}
 use mathlib.Core.List.{List}
 use Rattle.program.specs.Choice.{choose}
-use Rattle.machine.specs.Step.{Access, none, reads, writes, takes, gives, waits, valueRead, locksAfter}
+use Rattle.machine.specs.Step.{Access, waits, valueRead, locksAfter}
 use Rattle.machine.specs.declared.entry.Shared.{Shared}
 use Rattle.machine.specs.declared.entry.Shared.the-variants.{Waits, Made}
-
-abbrev pub AccessBelow : (locks variables : ℕ) → Access → Type 0
-AccessBelow locks variables none = Unit {0}
-AccessBelow locks variables (reads v) = v < variables
-AccessBelow locks variables (writes v a) = (v < variables) × (a < 8)
-AccessBelow locks variables (takes k) = k < locks
-AccessBelow locks variables (gives k) = k < locks
 
 -- TAKE of a lock that is not free waits; otherwise the access is made and finds a value
 unfoldable pub shared : Access → (locks variables : List ℕ) → Shared

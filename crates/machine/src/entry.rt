@@ -4,7 +4,8 @@ use crate::thread::register;
 
 ghost use mathlib.Core.Path.{_≡_};
 ghost use Prim.Native.Nat.{_<_};
-ghost use Rattle.machine.specs.Reached.{AccessBelow, shared, locksLeft};
+ghost use Rattle.machine.specs.Reached.{shared, locksLeft};
+ghost use Rattle.program.specs.Sound.{FieldsGood};
 ghost use mathlib.Core.List.{[]};
 ghost use Rattle.machine.specs.Step.{accessOf, takes, variablesAfter};
 
@@ -31,7 +32,7 @@ fn take(k: u8, t: u8, locks: &mut [u8; 16]) -> Shared
 }
 
 pub fn access(i: Instruction, t: u8, r: [u32; 8], variables: &mut [u32; 64], locks: &mut [u8; 16]) -> Shared
-    requires { ⌜ AccessBelow 16 64 (accessOf i) × (t < 8) ⌝ }
+    requires { ⌜ FieldsGood 16 64 i × (t < 8) ⌝ }
     ensures { λ q. ⌜ q ≡ shared (accessOf i) (now (locks .entry)) (now (variables .entry)) ⌝ }
     ensures { λ q. ⌜ now (variables .exit) ≡ variablesAfter (accessOf i) r (now (variables .entry)) ⌝ }
     ensures { λ q. ⌜ now (locks .exit) ≡ locksLeft (accessOf i) t (now (locks .entry)) ⌝ }

@@ -6,7 +6,7 @@ ghost use Prim.Native.Nat.{_+_, _-_, _%_, _^_, _≤_, _<_};
 ghost use lib.ListN.{set};
 ghost use lib.Dec.{ltb};
 ghost use Rattle.program.specs.Choice.{choose};
-ghost use Rattle.machine.specs.Registers.{NamesRegisters};
+ghost use Rattle.program.specs.Sound.{FieldsGood};
 ghost use Rattle.machine.specs.Step.{reg, registersAfter, branch, placeAfter, threadAfter};
 
 pub struct Thread {
@@ -40,7 +40,7 @@ fn with_register(registers: [u32; 8], a: u8, x: u32) -> [u32; 8]
 
 // The registers after an instruction, where a READ finds `value`.
 fn registers_after(i: Instruction, value: u32, r: [u32; 8]) -> [u32; 8]
-    requires { ⌜ NamesRegisters i ⌝ }
+    requires { ⌜ FieldsGood 16 64 i ⌝ }
     ensures { λ s. ⌜ s ≡ registersAfter i value r ⌝ }
 {
     match i {
@@ -100,7 +100,7 @@ fn back(place: usize, n: u16) -> usize
 
 // The place after an instruction.
 fn place_after(i: Instruction, r: [u32; 8], place: usize) -> usize
-    requires { ⌜ NamesRegisters i × (place ≤ 65535) ⌝ }
+    requires { ⌜ FieldsGood 16 64 i × (place ≤ 65535) ⌝ }
     ensures { λ p. ⌜ p ≡ placeAfter i r place ⌝ }
 {
     let next = place + 1;
@@ -125,7 +125,7 @@ fn place_after(i: Instruction, r: [u32; 8], place: usize) -> usize
 
 // A thread after an instruction, where a READ finds `value`.
 pub fn thread_after(i: Instruction, value: u32, th: Thread) -> Thread
-    requires { ⌜ NamesRegisters i × (th .place ≤ 65535) ⌝ }
+    requires { ⌜ FieldsGood 16 64 i × (th .place ≤ 65535) ⌝ }
     ensures { λ u. ⌜ u ≡ threadAfter i value th ⌝ }
 {
     let r = th.registers;

@@ -1,15 +1,16 @@
 -- `access` meets its contract, arm by arm. Assumes nothing.
 use mathlib.Core.Path.{_≡_, refl, subst}
 use borrow.Author.Needs.{needs}
+use Rattle.program.specs.Sound.{FieldsGood}
 use Rattle.program.specs.declared.instruction.Instruction.{Instruction}
-use Rattle.machine.specs.Reached.{AccessBelow, shared, locksLeft}
+use Rattle.machine.specs.Reached.{shared, locksLeft}
 use Rattle.machine.specs.Step.{accessOf, waits, valueRead, variablesAfter, locksAfter}
 use Rattle.machine.proofs.entry.access.Statement.{statement}
 use Rattle.machine.proofs.entry.access.Tie as tie
 
--- what the arm's instruction reaches
-below : {i j : Instruction} → i ≡ j → AccessBelow 16 64 (accessOf i) → AccessBelow 16 64 (accessOf j)
-below e h = subst (λ (k : Instruction). AccessBelow 16 64 (accessOf k)) e h
+-- what the arm's instruction names
+names : {i j : Instruction} → i ≡ j → FieldsGood 16 64 i → FieldsGood 16 64 j
+names e h = subst (FieldsGood 16 64) e h
 
 enum-told : tie.Need-enum-told
 enum-told c = search needs
@@ -36,15 +37,13 @@ mul-t13 : tie.Need-mul-t13
 mul-t13 c = search needs
 
 element-copy-out-t16 : tie.Need-element-copy-out-t16
-unfolding accessOf
-element-copy-out-t16 c = below (c .before .i .given .1) (c .before .before .before .pre .0)
+element-copy-out-t16 c = names (c .before .i .given .1) (c .before .before .before .pre .0) .1
 
 enum-known-i-2 : tie.Need-enum-known-i-2
 enum-known-i-2 c = search needs
 
 register-requires : tie.Need-register-requires
-unfolding accessOf
-register-requires c κs = below (c .before .i2 .given .1) (c .before .before .before .pre .0) .1
+register-requires c κs = names (c .before .i2 .given .1) (c .before .before .before .pre .0) .0
 
 cast-variables : tie.Need-cast-variables
 cast-variables c = search needs
@@ -53,15 +52,13 @@ mul-variables : tie.Need-mul-variables
 mul-variables c = search needs
 
 element-write-variables : tie.Need-element-write-variables
-unfolding accessOf
-element-write-variables c = below (c .before .before .i2 .given .1) (c .before .before .before .before .pre .0) .0
+element-write-variables c = names (c .before .before .i2 .given .1) (c .before .before .before .before .pre .0) .1
 
 enum-known-i-3 : tie.Need-enum-known-i-3
 enum-known-i-3 c = search needs
 
 take-requires : tie.Need-take-requires
-unfolding accessOf
-take-requires c κs = (below (c .before .before .i3 .given .1) (c .before .before .before .before .pre .0), c .before .before .before .before .pre .1)
+take-requires c κs = (names (c .before .before .i3 .given .1) (c .before .before .before .before .pre .0), c .before .before .before .before .pre .1)
 
 enum-known-i-4 : tie.Need-enum-known-i-4
 enum-known-i-4 c = search needs
@@ -70,8 +67,7 @@ cast-locks : tie.Need-cast-locks
 cast-locks c = search needs
 
 element-write-locks : tie.Need-element-write-locks
-unfolding accessOf
-element-write-locks c = below (c .before .i4 .given .1) (c .before .before .before .pre .0)
+element-write-locks c = names (c .before .i4 .given .1) (c .before .before .before .pre .0)
 
 enum-told-6 : tie.Need-enum-told-6
 enum-told-6 c = search needs

@@ -2,14 +2,14 @@
 use mathlib.Core.Path.{_≡_, subst}
 use borrow.Author.Needs.{needs}
 use Rattle.program.specs.declared.instruction.Instruction.{Instruction}
-use Rattle.machine.specs.Registers.{NamesRegisters}
+use Rattle.program.specs.Sound.{FieldsGood}
 use Rattle.machine.specs.Step.{registersAfter}
 use Rattle.machine.proofs.thread.registers_after.Statement.{statement}
 use Rattle.machine.proofs.thread.registers_after.Tie as tie
 
 -- what the arm's instruction names
-names : {i j : Instruction} → i ≡ j → NamesRegisters i → NamesRegisters j
-names e h = subst NamesRegisters e h
+names : {i j : Instruction} → i ≡ j → FieldsGood 16 64 i → FieldsGood 16 64 j
+names e h = subst (FieldsGood 16 64) e h
 
 enum-known-i : tie.Need-enum-known-i
 enum-known-i c = search needs
@@ -78,7 +78,7 @@ enum-known-i-6 : tie.Need-enum-known-i-6
 enum-known-i-6 c = search needs
 
 with-register-requires-6 : tie.Need-with-register-requires-6
-with-register-requires-6 c κs = names (c .before .i6 .given .1) (c .before .before .before .pre)
+with-register-requires-6 c κs = names (c .before .i6 .given .1) (c .before .before .before .pre) .0
 
 enum-told : tie.Need-enum-told
 enum-told c = search needs
