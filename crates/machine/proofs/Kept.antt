@@ -1,5 +1,5 @@
 -- The state in arrays, through one entry. Assumes nothing.
---     Kept                       what holds of the arrays between two entries
+--     kept-start                 what holds of the arrays between two entries, at the start
 --     fields, place-below        of the thread that an entry names, where it is not at its code's end
 --     entry-idle, entry-waiting, entry-moved   the entry, from what the code finds
 --     kept-waiting, kept-moved   what it leaves is kept
@@ -10,7 +10,7 @@ use mathlib.Core.List.{List, [], _∷_}
 use native.Mathlib.Nat.{lt-of-lt-of-le}
 use native.Mathlib.Decide.{ℕ-discrete}
 use native.Mathlib.Omega.{arith}
-use lib.ListN.{length, getD, set, take, length-set}
+use lib.ListN.{length, getD, set, take, replicate, length-set, getD-replicate}
 use lib.Seq.{getD-take, take-set-lt, getD-set-same, getD-set-other}
 use Rattle.program.specs.Choice.{choose}
 use Rattle.program.specs.Instruction.{decodeAt}
@@ -19,13 +19,13 @@ use Rattle.program.specs.Layout.{programOf}
 use Rattle.program.specs.Sound.{FieldsGood}
 use Rattle.program.specs.declared.layout.Layout.{Layout}
 use Rattle.program.specs.declared.instruction.Instruction.{Instruction}
-use Rattle.program.specs.declared.instruction.Instruction.the-variants.{End}
+use Rattle.program.specs.declared.instruction.Instruction.the-variants.{Set, Copy, Add, Sub, Less, Read, Write, Take, Give, If, Else, While, Again, Atomic, End}
 use Rattle.program.proofs.Contents.{length-instructions, getD-instructions}
 use Rattle.program.proofs.Decode.{instruction-fields}
 use Rattle.machine.specs.State.{State, fresh, codeOf, threadOf}
-use Rattle.machine.specs.Step.{Access, none, reads, writes, takes, gives, accessOf, waits, valueRead, variablesAfter, locksAfter, placeAfter, threadAfter, instructionOf, moveBy}
+use Rattle.machine.specs.Step.{Access, none, reads, writes, takes, gives, accessOf, waits, valueRead, variablesAfter, locksAfter, placeAfter, registersAfter, threadAfter, instructionOf, moveBy}
 use Rattle.machine.specs.Run.{runFrom}
-use Rattle.machine.specs.Kept.{stateIn, Located, Prepared}
+use Rattle.machine.specs.Kept.{stateIn, Prepared, nobody, Kept}
 use Rattle.machine.specs.Reached.{shared, locksLeft}
 use Rattle.machine.specs.declared.entry.Shared.{Shared}
 use Rattle.machine.specs.declared.entry.Shared.the-variants.{Waits, Made}
@@ -33,16 +33,20 @@ use Rattle.machine.specs.declared.thread.Thread.{Thread}
 use Rattle.machine.proofs.Outcome.{run-idle, run-waiting, run-moved}
 use Rattle.machine.proofs.Fields.{AccessBelow, access-below, wider, place-inside}
 
--- what a read of an array of threads gives where there is none
-abbrev pub nobody : Thread
-nobody = record { place = 0; registers = [] }
+-- a thread that has not moved is at place 0
+place-fresh : (n t : ℕ) → getD (replicate n fresh) t nobody .place ≡ 0
+unfolding fresh
+place-fresh ℕ.zero t = refl
+place-fresh (suc n) ℕ.zero = refl
+place-fresh (suc n) (suc t) = place-fresh n t
 
--- The arrays are as long as they were made, and each thread's place is within its code.
-pub record Kept (l : Layout) (sizes vs ks : List ℕ) (ths : List Thread) : Type 0 where
-  pub variables : length vs ≡ 64
-  pub locks : length ks ≡ 16
-  pub threads : length ths ≡ 8
-  pub places : (t : ℕ) → t < l .threads → getD ths t nobody .place ≤ getD sizes t 0
+registers-fresh : (n t : ℕ) → t < n → length (getD (replicate n fresh) t nobody .registers) ≡ 8
+unfolding fresh
+registers-fresh n t h = rw (getD-replicate n t fresh nobody h)
+
+-- so it is at the start
+pub kept-start : (l : Layout) (sizes vs ks : List ℕ) → length vs ≡ 64 → length ks ≡ 16 → Kept l sizes vs ks (replicate 8 fresh)
+kept-start l sizes vs ks e f = record { variables = e; locks = f; threads = refl; places = λ t h. omega (arith, place-fresh 8 t); registers = registers-fresh 8 }
 
 -- ---- the first elements count
 
@@ -133,6 +137,24 @@ length-locks-after (reads x) t ks = refl
 length-locks-after (writes x a) t ks = refl
 length-locks-after (takes x) t ks = length-set ks x (t + 1)
 length-locks-after (gives x) t ks = length-set ks x 0
+
+length-registers-after : (i : Instruction) (x : ℕ) (r : List ℕ) → length (registersAfter i x r) ≡ length r
+unfolding registersAfter
+length-registers-after (Set a n) x r = length-set r a n
+length-registers-after (Copy a b) x r = simp length-set
+length-registers-after (Add a b c) x r = simp length-set
+length-registers-after (Sub a b c) x r = simp length-set
+length-registers-after (Less a b c) x r = simp length-set
+length-registers-after (Read a v) x r = length-set r a x
+length-registers-after (Write a v) x r = refl
+length-registers-after (Take k) x r = refl
+length-registers-after (Give k) x r = refl
+length-registers-after (If a n) x r = refl
+length-registers-after (Else n) x r = refl
+length-registers-after (While a n) x r = refl
+length-registers-after (Again n) x r = refl
+length-registers-after (Atomic n) x r = refl
+length-registers-after End x r = refl
 
 -- ---- one entry
 
@@ -236,6 +258,14 @@ module _ (s : List ℕ) (l : Layout) (starts sizes : List ℕ) (prepared : Prepa
       | no e ↦ rw (getD-set-other ths t u (threadAfter i x (getD ths t nobody)) nobody e) (kept .places u k)
       ]
 
+    registers-after : (x u : ℕ) → u < 8 → length (getD (set ths t (threadAfter i x (getD ths t nobody))) u nobody .registers) ≡ 8
+    unfolding threadAfter
+    registers-after x u k = elim (ℕ-discrete u t)
+      [ yes e ↦ rw (e, getD-set-same ths t (threadAfter i x (getD ths t nobody)) nobody (omega (arith, prepared .threads, kept .threads)))
+          (length-registers-after i x (getD ths t nobody .registers) ∙ kept .registers t (omega (arith, prepared .threads)))
+      | no e ↦ rw (getD-set-other ths t u (threadAfter i x (getD ths t nobody)) nobody e) (kept .registers u k)
+      ]
+
     pub kept-moved : (x : ℕ) → shared (accessOf i) ks vs ≡ Made x
         → Kept l sizes (variablesAfter (accessOf i) (getD ths t nobody .registers) vs) (locksLeft (accessOf i) t ks)
             (set ths t (threadAfter i x (getD ths t nobody)))
@@ -245,4 +275,5 @@ module _ (s : List ℕ) (l : Layout) (starts sizes : List ℕ) (prepared : Prepa
       ; locks = length-locks-after (accessOf i) t ks ∙ kept .locks
       ; threads = length-set ths t (threadAfter i x (getD ths t nobody)) ∙ kept .threads
       ; places = places-after x
+      ; registers = registers-after x
       }

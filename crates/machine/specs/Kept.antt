@@ -48,6 +48,18 @@ pub record Prepared (s : List ℕ) (l : Layout) (starts sizes : List ℕ) : Type
   pub variables : l .variables ≤ 64
   pub sections : (t : ℕ) → t < l .threads → Located s l (getD starts t 0) (getD sizes t 0) t
 
+-- what a read of an array of threads gives where there is none
+abbrev pub nobody : Thread
+nobody = record { place = 0; registers = [] }
+
+-- between two entries: the arrays are as long as they were made, and each thread's place is within its code
+pub record Kept (l : Layout) (sizes vs ks : List ℕ) (ths : List Thread) : Type 0 where
+  pub variables : length vs ≡ 64
+  pub locks : length ks ≡ 16
+  pub threads : length ths ≡ 8
+  pub places : (t : ℕ) → t < l .threads → getD ths t nobody .place ≤ getD sizes t 0
+  pub registers : (t : ℕ) → t < 8 → length (getD ths t nobody .registers) ≡ 8
+
 -- every entry names a thread
 unfoldable pub Entries : Layout → List ℕ → Type 0
 Entries l list = (i : ℕ) → i < length list → getD list i 0 < l .threads

@@ -5,9 +5,10 @@ use crate::thread::{Thread, thread_after};
 use crate::entry::{Shared, access};
 
 ghost use mathlib.Core.Path.{_≡_};
+ghost use lib.ListN.{length};
 ghost use Rattle.program.specs.Layout.{programOf};
 ghost use Rattle.machine.specs.Run.{runFrom};
-ghost use Rattle.machine.specs.Kept.{Prepared, Entries, fromHere, ranIn};
+ghost use Rattle.machine.specs.Kept.{Prepared, Entries, Kept, fromHere, ranIn};
 
 // How many entries moved, waited and were idle.
 pub struct Tally {
@@ -24,8 +25,9 @@ pub struct Ran {
 
 // The entries of a list, one after the other.
 fn entries(s: &[u8], l: Layout, list: &[u8], starts: [usize; 8], sizes: [usize; 8], variables: &mut [u32; 64], locks: &mut [u8; 16]) -> Ran
-    requires { ⌜ Prepared (now s) l starts sizes × Entries l (now list) ⌝ }
+    requires { ⌜ Prepared (now s) l starts sizes × Entries l (now list) × (length (now variables) ≡ 64) × (length (now locks) ≡ 16) ⌝ }
     ensures { λ r. ⌜ runFrom (programOf (now (s .entry)) l) (fromHere l (now (variables .entry)) (now (locks .entry))) (now (list .entry)) ≡ ranIn l r (now (variables .exit)) (now (locks .exit)) ⌝ }
+    ensures { λ r. ⌜ Kept l sizes (now (variables .exit)) (now (locks .exit)) (r .threads) ⌝ }
 {
     let mut threads = [Thread { place: 0, registers: [0; 8] }; 8];
     let mut moved: usize = 0;
