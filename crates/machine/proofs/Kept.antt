@@ -25,7 +25,7 @@ use Rattle.program.proofs.Decode.{instruction-fields}
 use Rattle.machine.specs.State.{State, fresh, codeOf, threadOf}
 use Rattle.machine.specs.Step.{Access, none, reads, writes, takes, gives, accessOf, waits, valueRead, variablesAfter, locksAfter, placeAfter, registersAfter, threadAfter, instructionOf, moveBy}
 use Rattle.machine.specs.Run.{runFrom}
-use Rattle.machine.specs.Kept.{stateIn, Prepared, nobody, Kept}
+use Rattle.machine.specs.Kept.{stateIn, Prepared, nobody, EightRegisters, Kept}
 use Rattle.machine.specs.Reached.{shared, locksLeft}
 use Rattle.machine.specs.declared.entry.Shared.{Shared}
 use Rattle.machine.specs.declared.entry.Shared.the-variants.{Waits, Made}
@@ -46,6 +46,7 @@ registers-fresh n t h = rw (getD-replicate n t fresh nobody h)
 
 -- so it is at the start
 pub kept-start : (l : Layout) (sizes vs ks : List ℕ) → length vs ≡ 64 → length ks ≡ 16 → Kept l sizes vs ks (replicate 8 fresh)
+unfolding EightRegisters
 kept-start l sizes vs ks e f = record { variables = e; locks = f; threads = refl; places = λ t h. omega (arith, place-fresh 8 t); registers = registers-fresh 8 }
 
 -- ---- the first elements count
@@ -258,8 +259,8 @@ module _ (s : List ℕ) (l : Layout) (starts sizes : List ℕ) (prepared : Prepa
       | no e ↦ rw (getD-set-other ths t u (threadAfter i x (getD ths t nobody)) nobody e) (kept .places u k)
       ]
 
-    registers-after : (x u : ℕ) → u < 8 → length (getD (set ths t (threadAfter i x (getD ths t nobody))) u nobody .registers) ≡ 8
-    unfolding threadAfter
+    registers-after : (x : ℕ) → EightRegisters (set ths t (threadAfter i x (getD ths t nobody)))
+    unfolding threadAfter EightRegisters
     registers-after x u k = elim (ℕ-discrete u t)
       [ yes e ↦ rw (e, getD-set-same ths t (threadAfter i x (getD ths t nobody)) nobody (omega (arith, prepared .threads, kept .threads)))
           (length-registers-after i x (getD ths t nobody .registers) ∙ kept .registers t (omega (arith, prepared .threads)))

@@ -2,6 +2,8 @@
 --     Outcome one entry of the list, from the test that decides it
 --     Fields  what a sound file's instruction reaches, and where it goes
 --     Kept    the state in arrays, through one entry
+--     StateBytes  the bytes as loops write them
 pub mod Outcome
 pub mod Fields
 pub mod Kept
+pub mod StateBytes

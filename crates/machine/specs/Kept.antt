@@ -52,13 +52,17 @@ pub record Prepared (s : List ℕ) (l : Layout) (starts sizes : List ℕ) : Type
 abbrev pub nobody : Thread
 nobody = record { place = 0; registers = [] }
 
+-- each of the eight threads has eight registers
+unfoldable pub EightRegisters : List Thread → Type 0
+EightRegisters threads = (t : ℕ) → t < 8 → length (getD threads t nobody .registers) ≡ 8
+
 -- between two entries: the arrays are as long as they were made, and each thread's place is within its code
 pub record Kept (l : Layout) (sizes vs ks : List ℕ) (ths : List Thread) : Type 0 where
   pub variables : length vs ≡ 64
   pub locks : length ks ≡ 16
   pub threads : length ths ≡ 8
   pub places : (t : ℕ) → t < l .threads → getD ths t nobody .place ≤ getD sizes t 0
-  pub registers : (t : ℕ) → t < 8 → length (getD ths t nobody .registers) ≡ 8
+  pub registers : EightRegisters ths
 
 -- every entry names a thread
 unfoldable pub Entries : Layout → List ℕ → Type 0

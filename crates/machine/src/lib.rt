@@ -1,4 +1,5 @@
 // The step machine (document 01, "The step machine").
 pub mod thread;
 pub mod entry;
+pub mod bytes;
 pub mod run;

@@ -1,0 +1,75 @@
+// The state's bytes (document 01, "The step machine": "It writes the end state").
+use crate::thread::Thread;
+
+ghost use mathlib.Core.Path.{_≡_};
+ghost use Prim.Native.Nat.{_+_, _*_, _≤_};
+ghost use lib.ListN.{length, take};
+ghost use lib.Seq.{sets};
+ghost use Rattle.machine.specs.Kept.{EightRegisters};
+ghost use Rattle.machine.specs.State.{pairBytes, wordBytes, threadBytes, each};
+
+// A number of two bytes.
+fn write_pair(out: &mut [u8], at: usize, x: usize)
+    requires { ⌜ at + 2 ≤ length (now out) ⌝ }
+    ensures { λ r. ⌜ now (out .exit) ≡ sets (now (out .entry)) at (pairBytes x) ⌝ }
+{
+    out[at] = (x / 256 % 256) as u8;
+    out[at + 1] = (x % 256) as u8;
+}
+
+// A number of four bytes.
+fn write_word(out: &mut [u8], at: usize, x: u32)
+    requires { ⌜ at + 4 ≤ length (now out) ⌝ }
+    ensures { λ r. ⌜ now (out .exit) ≡ sets (now (out .entry)) at (wordBytes x) ⌝ }
+{
+    out[at] = (x / 16777216 % 256) as u8;
+    out[at + 1] = (x / 65536 % 256) as u8;
+    out[at + 2] = (x / 256 % 256) as u8;
+    out[at + 3] = (x % 256) as u8;
+}
+
+// The first n numbers, four bytes each: variables, and registers.
+pub fn write_words(out: &mut [u8], at: usize, n: usize, words: &[u32])
+    requires { ⌜ (at + 4 * n ≤ length (now out)) × (n ≤ length (now words)) ⌝ }
+    ensures { λ r. ⌜ now (out .exit) ≡ sets (now (out .entry)) at (each wordBytes (take n (now (words .entry)))) ⌝ }
+{
+    let mut i: usize = 0;
+    while i < n {
+        write_word(out, at + 4 * i, words[i]);
+        i += 1;
+    }
+}
+
+// The first n bytes: locks.
+pub fn write_bytes(out: &mut [u8], at: usize, n: usize, bytes: &[u8])
+    requires { ⌜ (at + n ≤ length (now out)) × (n ≤ length (now bytes)) ⌝ }
+    ensures { λ r. ⌜ now (out .exit) ≡ sets (now (out .entry)) at (take n (now (bytes .entry))) ⌝ }
+{
+    let mut i: usize = 0;
+    while i < n {
+        out[at + i] = bytes[i];
+        i += 1;
+    }
+}
+
+// A thread: its place, then its registers.
+fn write_thread(out: &mut [u8], at: usize, th: Thread)
+    requires { ⌜ (at + 34 ≤ length (now out)) × (length (th .registers) ≡ 8) ⌝ }
+    ensures { λ r. ⌜ now (out .exit) ≡ sets (now (out .entry)) at (threadBytes th) ⌝ }
+{
+    write_pair(out, at, th.place);
+    let r = th.registers;
+    write_words(out, at + 2, 8, &r);
+}
+
+// The first n threads.
+pub fn write_threads(out: &mut [u8], at: usize, n: usize, threads: [Thread; 8])
+    requires { ⌜ (at + 34 * n ≤ length (now out)) × (n ≤ 8) × EightRegisters threads ⌝ }
+    ensures { λ r. ⌜ now (out .exit) ≡ sets (now (out .entry)) at (each threadBytes (take n threads)) ⌝ }
+{
+    let mut i: usize = 0;
+    while i < n {
+        write_thread(out, at + 34 * i, threads[i]);
+        i += 1;
+    }
+}
