@@ -14,8 +14,9 @@ use native.Mathlib.Nat.{le-of-lt, add-zero, suc-add, add-suc, mul-zero, mul-suc}
 use native.Mathlib.Numerals.{add-one}
 use native.Mathlib.Omega.{arith}
 use lib.ListN.{length, getD, set, take, length-append}
-use lib.Seq.{sets, take-suc, length-take-le}
+use lib.Seq.{sets, take-suc, getD-take, length-take-le}
 use Rattle.machine.specs.State.{State, each, pairBytes, wordBytes, threadBytes, stateBytes}
+use Rattle.machine.specs.Kept.{nobody}
 use Rattle.machine.specs.declared.thread.Thread.{Thread}
 
 pub sets-append : (xs ys l : List ℕ) (i : ℕ) → sets l i (xs ++ ys) ≡ sets (sets l i xs) (i + length xs) ys
@@ -56,6 +57,14 @@ length-first-words xs n h = length-words (take n xs) ∙ rw (length-take-le n xs
 pub length-thread : (th : Thread) → length (th .registers) ≡ 8 → length (threadBytes th) ≡ 34
 unfolding threadBytes pairBytes
 length-thread th e = ap suc (ap suc (length-words (th .registers) ∙ rw e))
+
+pub length-first-threads : (xs : List Thread) (n : ℕ) → n ≤ length xs → ((i : ℕ) → i < n → length (getD xs i nobody .registers) ≡ 8)
+    → length (each threadBytes (take n xs)) ≡ 34 * n
+length-first-threads xs n h r =
+    let e = length-take-le n xs h in
+    length-each threadBytes 34 (take n xs) nobody
+    (λ i l. let k : i < n = omega (arith, e) in rw (getD-take n xs i nobody k) (length-thread (getD xs i nobody) (r i k)))
+    ∙ rw e
 
 -- a byte more
 pub write-byte : (l : List ℕ) (at : ℕ) (xs : List ℕ) (i : ℕ) → i < length xs
