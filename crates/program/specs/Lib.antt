@@ -7,6 +7,7 @@
 --     Nesting      entries and named places
 --     Layout       the whole file, front to back, and its contents
 --     Code         structured code
+--     Stack        the open entries as the code holds them
 --     Sound        what a sound file is known to hold (for proofs)
 --     WellFormed   structured code that a file can hold; for a theorem only
 pub mod Refusal
@@ -17,5 +18,6 @@ pub mod Instruction
 pub mod Nesting
 pub mod Layout
 pub mod Code
+pub mod Stack
 pub mod Sound
 pub mod WellFormed

@@ -5,6 +5,7 @@ ghost use Prim.Native.Nat.{_+_, _*_, _≤_, _<_};
 ghost use lib.ListN.{length};
 ghost use lib.Dec.{leb};
 ghost use Rattle.program.specs.Field.{byteAt, pairAt, byteField, pairField};
+ghost use Rattle.program.specs.Field as Fields;
 
 // The offset of the next byte to read.
 pub struct Cursor {
@@ -68,6 +69,28 @@ pub fn pair_field(s: &[u8], c: Cursor) -> Field
     let at = c.at;
     if has_bytes(s, at, 2) {
         return Field::Value(pair_at(s, at), Cursor { at: at + 2 });
+    }
+    Field::Refused(Refusal::Missing(s.len()))
+}
+
+// A section's head: its number of records, and the cursor at the first.
+pub fn section(s: &[u8], c: Cursor, size: usize, limit: usize) -> Field
+    requires { ⌜ 0 < size ⌝ }
+    ensures { λ r. ⌜ r ≡ Fields.section size limit (now (s .entry)) c ⌝ }
+{
+    let f = pair_field(s, c);
+    let Field::Value(n, first) = f else {
+        return f;
+    };
+    if n % size != 0 {
+        return Field::Refused(Refusal::Length(c.at));
+    }
+    if limit < n {
+        return Field::Refused(Refusal::Length(c.at));
+    }
+    let start = first.at;
+    if has_bytes(s, start, n) {
+        return Field::Value(n / size, first);
     }
     Field::Refused(Refusal::Missing(s.len()))
 }

@@ -1,10 +1,11 @@
 // A decoded instruction (document 01, "The file": the table of op codes).
+use crate::found::Found;
 ghost use mathlib.Core.Path.{_≡_};
 ghost use mathlib.Core.Bool.{_&&_};
-ghost use Prim.Native.Nat.{_+_, _≤_};
+ghost use Prim.Native.Nat.{_+_, _*_, _≤_};
 ghost use lib.ListN.{length};
 ghost use lib.Dec.{ltb};
-ghost use Rattle.program.specs.Choice.{choose};
+ghost use Rattle.program.specs.Choice.{choose, firstBad};
 ghost use Rattle.program.specs.Instruction.{isRegister, isZero, decodeAt, instructionOf, formOf};
 ghost use Rattle.program.specs.Instruction as Table;
 
@@ -148,4 +149,22 @@ pub fn form_of(i: Instruction) -> Form
         Instruction::Atomic(n) => Form::Atomic(n),
         Instruction::End => Form::End,
     }
+}
+
+// The first of n instructions from an offset on that is not valid.
+pub fn first_bad_instruction(s: &[u8], start: usize, n: usize, locks: usize, variables: usize) -> Found
+    requires { ⌜ start + 4 * n ≤ length (now s) ⌝ }
+    ensures { λ r. ⌜ r ≡ firstBad (λ p. Table.isValid (decodeAt locks variables (now (s .entry)) p)) 4 n start ⌝ }
+{
+    let mut at = start;
+    let mut left = n;
+    while 0 < left {
+        let d = decode_at(s, at, locks, variables);
+        let Decoded::Valid(_) = d else {
+            return Found::At(at);
+        };
+        at += 4;
+        left -= 1;
+    }
+    Found::Nowhere
 }

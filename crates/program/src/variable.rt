@@ -1,9 +1,10 @@
 // A variable record's kind (document 01, "The file": "Kinds").
 use crate::cursor::pair_at;
+use crate::found::Found;
 ghost use mathlib.Core.Path.{_≡_};
-ghost use Prim.Native.Nat.{_+_, _≤_};
+ghost use Prim.Native.Nat.{_+_, _*_, _≤_};
 ghost use lib.ListN.{length};
-ghost use Rattle.program.specs.Choice.{choose};
+ghost use Rattle.program.specs.Choice.{choose, firstBad};
 ghost use Rattle.program.specs.Field.{wordAt};
 ghost use Rattle.program.specs.Variable.{recordAt, kindOf};
 ghost use Rattle.program.specs.Variable as Variable;
@@ -72,4 +73,22 @@ pub fn initial_at(s: &[u8], at: usize) -> u32
 {
     let first = at + 2;
     (pair_at(s, first) as u32) * 65536 + (pair_at(s, first + 2) as u32)
+}
+
+// The first of n records from an offset on that is not valid.
+pub fn first_bad_record(s: &[u8], start: usize, n: usize, locks: usize, threads: usize) -> Found
+    requires { ⌜ start + 6 * n ≤ length (now s) ⌝ }
+    ensures { λ r. ⌜ r ≡ firstBad (λ p. Variable.isValid (recordAt locks threads (now (s .entry)) p)) 6 n start ⌝ }
+{
+    let mut at = start;
+    let mut left = n;
+    while 0 < left {
+        let r = record_at(s, at, locks, threads);
+        let Recorded::Valid(_) = r else {
+            return Found::At(at);
+        };
+        at += 6;
+        left -= 1;
+    }
+    Found::Nowhere
 }
