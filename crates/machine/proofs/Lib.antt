@@ -2,8 +2,10 @@
 --     Outcome one entry of the list, from the test that decides it
 --     Fields  what a sound file's instruction reaches, and where it goes
 --     Kept    the state in arrays, through one entry
+--     Start   the initial values and the code sections, as loops find them
 --     StateBytes  the bytes as loops write them
 pub mod Outcome
 pub mod Fields
 pub mod Kept
+pub mod Start
 pub mod StateBytes

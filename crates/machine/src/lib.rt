@@ -2,4 +2,5 @@
 pub mod thread;
 pub mod entry;
 pub mod bytes;
+pub mod prepare;
 pub mod run;
