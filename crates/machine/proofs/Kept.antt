@@ -123,7 +123,7 @@ variables-waiting (writes x a) r ks vs e = absurd (let z : _≡_ {A = ℕ} 0 1 =
 variables-waiting (takes x) r ks vs e = refl
 variables-waiting (gives x) r ks vs e = refl
 
-length-variables-after : (a : Access) (r vs : List ℕ) → length (variablesAfter a r vs) ≡ length vs
+pub length-variables-after : (a : Access) (r vs : List ℕ) → length (variablesAfter a r vs) ≡ length vs
 unfolding variablesAfter
 length-variables-after none r vs = refl
 length-variables-after (reads x) r vs = refl
@@ -131,7 +131,7 @@ length-variables-after (writes x a) r vs = length-set vs x (getD r a 0)
 length-variables-after (takes x) r vs = refl
 length-variables-after (gives x) r vs = refl
 
-length-locks-after : (a : Access) (t : ℕ) (ks : List ℕ) → length (locksAfter a t ks) ≡ length ks
+pub length-locks-after : (a : Access) (t : ℕ) (ks : List ℕ) → length (locksAfter a t ks) ≡ length ks
 unfolding locksAfter
 length-locks-after none t ks = refl
 length-locks-after (reads x) t ks = refl
@@ -139,7 +139,7 @@ length-locks-after (writes x a) t ks = refl
 length-locks-after (takes x) t ks = length-set ks x (t + 1)
 length-locks-after (gives x) t ks = length-set ks x 0
 
-length-registers-after : (i : Instruction) (x : ℕ) (r : List ℕ) → length (registersAfter i x r) ≡ length r
+pub length-registers-after : (i : Instruction) (x : ℕ) (r : List ℕ) → length (registersAfter i x r) ≡ length r
 unfolding registersAfter
 length-registers-after (Set a n) x r = length-set r a n
 length-registers-after (Copy a b) x r = simp length-set

@@ -4,8 +4,10 @@
 --     Kept    the state in arrays, through one entry
 --     Start   the initial values and the code sections, as loops find them
 --     StateBytes  the bytes as loops write them
+--     Shape   how long the lists of a state are, and how many bytes it has
 pub mod Outcome
 pub mod Fields
 pub mod Kept
 pub mod Start
 pub mod StateBytes
+pub mod Shape

@@ -5,6 +5,7 @@
 --     sections-start, sections-next   at the first thread, and one thread on
 --     section-sound, section-located  the thread's code lies there
 --     located-next                    a thread more is located
+--     start-in                        the start's state, in arrays
 use Prim.Native.Nat.{ℕ, zero, suc, _+_, _*_, _-_, _/_, _≤_, _<_}
 use mathlib.Core.Path.{_≡_, refl, sym, ap, _∙_, subst}
 use mathlib.Core.List.{List, [], _∷_, map}
@@ -12,7 +13,7 @@ use native.Mathlib.Nat.{add-zero, sub-zero}
 use native.Mathlib.Numerals.{add-one}
 use native.Mathlib.Decide.{ℕ-discrete}
 use native.Mathlib.Omega.{arith}
-use lib.ListN.{length, getD, set, take, drop, length-map, List·getD-map}
+use lib.ListN.{length, getD, set, take, drop, replicate, length-map, List·getD-map}
 use lib.Seq.{take-suc, take-suc-set, getD-drop, drop-drop, getD-set-same, getD-set-other}
 use Rattle.program.specs.Field.{pairAt, wordAt}
 use Rattle.program.specs.Layout.{CodeSection, programOf, variablesAt, threadsAt, instructionsAt}
@@ -21,8 +22,8 @@ use Rattle.program.specs.Variable.{Variable, variableAt}
 use Rattle.program.specs.declared.layout.Layout.{Layout}
 use Rattle.program.specs.declared.variable.Kind.the-variants.{Open}
 use Rattle.program.proofs.Contents.{length-variables, getD-variables, length-threads}
-use Rattle.machine.specs.State.{start, codeOf}
-use Rattle.machine.specs.Kept.{Located}
+use Rattle.machine.specs.State.{start, fresh, codeOf}
+use Rattle.machine.specs.Kept.{stateIn, Located}
 
 -- ---- the initial values
 
@@ -99,3 +100,22 @@ located-next s l starts sizes t a n p q before here u h = elim (ℕ-discrete u t
   [ yes e ↦ rw (e, getD-set-same starts t a 0 p, getD-set-same sizes t n 0 q) here
   | no e ↦ rw (getD-set-other starts t u a 0 e, getD-set-other sizes t u n 0 e) (before u (omega arith))
   ]
+
+-- ---- the start in arrays
+
+take-replicate : {A : Type 0} (k n : ℕ) (a : A) → k ≤ n → take k (replicate n a) ≡ replicate k a
+take-replicate zero n a h = refl
+take-replicate (suc k) zero a h = absurd (omega arith)
+take-replicate (suc k) (suc n) a h = rw (take-replicate k n a (omega arith))
+
+map-same : {A B : Type 0} (xs : List A) (b : B) → map (λ (x : A). b) xs ≡ replicate (length xs) b
+map-same [] b = refl
+map-same (x ∷ xs) b = rw (map-same xs b)
+
+pub start-in : (s : List ℕ) (l : Layout) (vs : List ℕ) → l .locks ≤ 16 → l .threads ≤ 8 → take (l .variables) vs ≡ start (programOf s l) .variables
+    → stateIn l vs (replicate 16 0) (replicate 8 fresh) ≡ start (programOf s l)
+unfolding start programOf
+start-in s l vs p q e =
+    rw (e, take-replicate {A = ℕ} (l .locks) 16 0 p, take-replicate (l .threads) 8 fresh q,
+        map-same (threadsAt (l .locks) (l .variables) s (l .threads) (5 + 6 * l .variables)) fresh,
+        length-threads (l .locks) (l .variables) s (l .threads) (5 + 6 * l .variables))

@@ -6,15 +6,16 @@
 --     length-threads    of threads with eight registers
 --     write-each        a turn of the loop that writes element by element
 --     write-byte        the same of bytes
---     length-state      "4 bytes a variable, 1 a lock and 34 a thread"
+--     sets-front        at the front of a buffer whose later bytes are kept
+--     write-state       variables, locks and threads one after the other are the state
 use Prim.Native.Nat.{ℕ, zero, suc, _+_, _*_, _≤_, _<_}
 use mathlib.Core.Path.{_≡_, refl, sym, ap, _∙_}
 use mathlib.Core.List.{List, [], _∷_, _++_, append-assoc, append-nil}
-use native.Mathlib.Nat.{le-of-lt, add-zero, suc-add, add-suc, mul-zero, mul-suc}
+use native.Mathlib.Nat.{le-of-lt, zero-add, add-zero, suc-add, add-suc, mul-zero, mul-suc}
 use native.Mathlib.Numerals.{add-one}
 use native.Mathlib.Omega.{arith}
-use lib.ListN.{length, getD, set, take, length-append}
-use lib.Seq.{sets, take-suc, getD-take, length-take-le}
+use lib.ListN.{length, getD, set, take, drop, length-append}
+use lib.Seq.{sets, sets-eq, take-suc, getD-take, length-take-le}
 use Rattle.machine.specs.State.{State, each, pairBytes, wordBytes, threadBytes, stateBytes}
 use Rattle.machine.specs.Kept.{nobody}
 use Rattle.machine.specs.declared.thread.Thread.{Thread}
@@ -70,3 +71,15 @@ length-first-threads xs n h r =
 pub write-byte : (l : List ℕ) (at : ℕ) (xs : List ℕ) (i : ℕ) → i < length xs
     → set (sets l at (take i xs)) (at + i) (getD xs i 0) ≡ sets l at (take (i + 1) xs)
 write-byte l at xs i h = rw (add-one, take-suc xs i 0, sets-append, length-take-le i xs (le-of-lt h))
+
+-- the three parts of the state, each written past the one before
+pub write-state : (out : List ℕ) (s : State) (n m : ℕ) → length (each wordBytes (s .variables)) ≡ n → n + length (s .locks) ≡ m
+    → sets (sets (sets out 0 (each wordBytes (s .variables))) n (s .locks)) m (each threadBytes (s .threads)) ≡ sets out 0 (stateBytes s)
+unfolding stateBytes
+write-state out s n m e f =
+    rw (sets-append (each wordBytes (s .variables) ++ s .locks) (each threadBytes (s .threads)) out 0, sets-append (each wordBytes (s .variables)) (s .locks) out 0,
+        length-append, e, zero-add, zero-add, f)
+
+-- bytes written at the front, and the later ones kept
+pub sets-front : (xs out : List ℕ) → length xs ≤ length out → sets out 0 xs ≡ xs ++ drop (length xs) out
+sets-front xs out h = sets-eq xs out 0 (omega arith) ∙ rw zero-add

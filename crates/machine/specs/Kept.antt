@@ -9,8 +9,9 @@ use Rattle.program.specs.Nesting.{firstBroken}
 use Rattle.program.specs.declared.found.Found.the-variants.{Nowhere}
 use Rattle.program.specs.declared.layout.Layout.{Layout}
 use Rattle.machine.specs.State.{State, codeOf, fresh}
-use Rattle.machine.specs.Run.{Run, Counts}
-use Rattle.machine.specs.declared.run.Tally.{Tally}
+use Rattle.machine.specs.Run.{Run}
+use Rattle.machine.specs.Run as run
+use Rattle.machine.specs.declared.run.Counts.{Counts}
 use Rattle.machine.specs.declared.run.Ran.{Ran}
 use Rattle.machine.specs.declared.thread.Thread.{Thread}
 
@@ -23,7 +24,7 @@ stateIn l variables locks threads = record
   }
 
 -- the counts, as the code has them
-abbrev pub countsOf : Tally → Counts
+abbrev pub countsOf : Counts → run.Counts
 countsOf c = record { moved = c .moved; waiting = c .waiting; idle = c .idle }
 
 -- the variables and locks of some moment, every thread at its start, nothing counted
@@ -32,7 +33,7 @@ fromHere l variables locks = record { counts = record { moved = 0; waiting = 0; 
 
 -- what is left and counted
 abbrev pub ranIn : Layout → Ran → (variables locks : List ℕ) → Run
-ranIn l r variables locks = record { counts = countsOf (r .tally); state = stateIn l variables locks (r .threads) }
+ranIn l r variables locks = record { counts = countsOf (r .counts); state = stateIn l variables locks (r .threads) }
 
 -- a thread's code lies in the file from its start on, is short, and is well nested
 pub record Located (s : List ℕ) (l : Layout) (start size t : ℕ) : Type 0 where

@@ -1,12 +1,13 @@
 // The state's bytes (document 01, "The step machine": "It writes the end state").
+use program::layout::Layout;
 use crate::thread::Thread;
 
 ghost use mathlib.Core.Path.{_≡_};
 ghost use Prim.Native.Nat.{_+_, _*_, _≤_};
 ghost use lib.ListN.{length, take};
 ghost use lib.Seq.{sets};
-ghost use Rattle.machine.specs.Kept.{EightRegisters};
-ghost use Rattle.machine.specs.State.{pairBytes, wordBytes, threadBytes, each};
+ghost use Rattle.machine.specs.Kept.{stateIn, EightRegisters};
+ghost use Rattle.machine.specs.State.{pairBytes, wordBytes, threadBytes, stateBytes, each};
 
 // A number of two bytes.
 fn write_pair(out: &mut [u8], at: usize, x: usize)
@@ -29,7 +30,7 @@ fn write_word(out: &mut [u8], at: usize, x: u32)
 }
 
 // The first n numbers, four bytes each: variables, and registers.
-pub fn write_words(out: &mut [u8], at: usize, n: usize, words: &[u32])
+fn write_words(out: &mut [u8], at: usize, n: usize, words: &[u32])
     requires { ⌜ (at + 4 * n ≤ length (now out)) × (n ≤ length (now words)) ⌝ }
     ensures { λ r. ⌜ now (out .exit) ≡ sets (now (out .entry)) at (each wordBytes (take n (now (words .entry)))) ⌝ }
 {
@@ -41,7 +42,7 @@ pub fn write_words(out: &mut [u8], at: usize, n: usize, words: &[u32])
 }
 
 // The first n bytes: locks.
-pub fn write_bytes(out: &mut [u8], at: usize, n: usize, bytes: &[u8])
+fn write_bytes(out: &mut [u8], at: usize, n: usize, bytes: &[u8])
     requires { ⌜ (at + n ≤ length (now out)) × (n ≤ length (now bytes)) ⌝ }
     ensures { λ r. ⌜ now (out .exit) ≡ sets (now (out .entry)) at (take n (now (bytes .entry))) ⌝ }
 {
@@ -63,7 +64,7 @@ fn write_thread(out: &mut [u8], at: usize, th: Thread)
 }
 
 // The first n threads.
-pub fn write_threads(out: &mut [u8], at: usize, n: usize, threads: [Thread; 8])
+fn write_threads(out: &mut [u8], at: usize, n: usize, threads: [Thread; 8])
     requires { ⌜ (at + 34 * n ≤ length (now out)) × (n ≤ 8) × EightRegisters threads ⌝ }
     ensures { λ r. ⌜ now (out .exit) ≡ sets (now (out .entry)) at (each threadBytes (take n threads)) ⌝ }
 {
@@ -72,4 +73,17 @@ pub fn write_threads(out: &mut [u8], at: usize, n: usize, threads: [Thread; 8])
         write_thread(out, at + 34 * i, threads[i]);
         i += 1;
     }
+}
+
+// The state: variables, locks, threads.
+pub fn write_state(out: &mut [u8], l: Layout, variables: &[u32], locks: &[u8], threads: [Thread; 8])
+    requires { ⌜ 4 * l .variables + l .locks + 34 * l .threads ≤ length (now out) ⌝ }
+    requires { ⌜ (l .variables ≤ length (now variables)) × (l .locks ≤ length (now locks)) × (l .threads ≤ 8) × EightRegisters threads ⌝ }
+    ensures { λ r. ⌜ now (out .exit) ≡ sets (now (out .entry)) 0 (stateBytes (stateIn l (now (variables .entry)) (now (locks .entry)) threads)) ⌝ }
+{
+    let past_variables = 4 * l.variables;
+    let past_locks = past_variables + l.locks;
+    write_words(out, 0, l.variables, variables);
+    write_bytes(out, past_variables, l.locks, locks);
+    write_threads(out, past_locks, l.threads, threads);
 }

@@ -3,15 +3,21 @@ use program::instruction::instruction_at;
 use program::layout::Layout;
 use crate::thread::{Thread, thread_after};
 use crate::entry::{Shared, access};
+use crate::prepare::{initial_values, find_code};
+use crate::bytes::write_state;
 
 ghost use mathlib.Core.Path.{_≡_};
-ghost use lib.ListN.{length};
+ghost use mathlib.Core.List.{_++_};
+ghost use Prim.Native.Nat.{_+_, _*_, _≤_};
+ghost use lib.ListN.{length, drop};
 ghost use Rattle.program.specs.Layout.{programOf};
-ghost use Rattle.machine.specs.Run.{runFrom};
-ghost use Rattle.machine.specs.Kept.{Prepared, Entries, Kept, fromHere, ranIn};
+ghost use Rattle.program.specs.Sound.{SoundFile};
+ghost use Rattle.machine.specs.State.{stateBytes};
+ghost use Rattle.machine.specs.Run.{runFrom, run};
+ghost use Rattle.machine.specs.Kept.{Prepared, Entries, Kept, fromHere, countsOf, ranIn};
 
 // How many entries moved, waited and were idle.
-pub struct Tally {
+pub struct Counts {
     pub moved: usize,
     pub waiting: usize,
     pub idle: usize,
@@ -19,7 +25,7 @@ pub struct Tally {
 
 // What a list leaves beside the variables and the locks.
 pub struct Ran {
-    pub tally: Tally,
+    pub counts: Counts,
     pub threads: [Thread; 8],
 }
 
@@ -56,5 +62,30 @@ fn entries(s: &[u8], l: Layout, list: &[u8], starts: [usize; 8], sizes: [usize; 
             }
         }
     }
-    Ran { tally: Tally { moved: moved, waiting: waiting, idle: idle }, threads: threads }
+    Ran {
+        counts: Counts {
+            moved: moved,
+            waiting: waiting,
+            idle: idle,
+        },
+        threads: threads,
+    }
+}
+
+// A list, run from the start of a sound file's program: the counts, and the end state's bytes.
+pub fn run_list(s: &[u8], l: Layout, list: &[u8], out: &mut [u8]) -> Counts
+    requires { ⌜ SoundFile (now s) l × Entries l (now list) × (4 * l .variables + l .locks + 34 * l .threads ≤ length (now out)) ⌝ }
+    ensures counts { λ r. ⌜ countsOf r ≡ run (programOf (now (s .entry)) l) (now (list .entry)) .counts ⌝ }
+    ensures state { λ r. ⌜ now (out .exit) ≡ stateBytes (run (programOf (now (s .entry)) l) (now (list .entry)) .state) ++ drop (length (stateBytes (run (programOf (now (s .entry)) l) (now (list .entry)) .state))) (now (out .entry)) ⌝ }
+{
+    let mut variables = [0u32; 64];
+    let mut locks = [0u8; 16];
+    let mut starts = [0usize; 8];
+    let mut sizes = [0usize; 8];
+    initial_values(s, l, &mut variables);
+    find_code(s, l, &mut starts, &mut sizes);
+    let ran = entries(s, l, list, starts, sizes, &mut variables, &mut locks);
+    let threads = ran.threads;
+    write_state(out, l, &variables, &locks, threads);
+    ran.counts
 }
