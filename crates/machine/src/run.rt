@@ -35,7 +35,11 @@ fn entries(s: &[u8], l: Layout, list: &[u8], starts: [usize; 8], sizes: [usize; 
     ensures { λ r. ⌜ runFrom (programOf (now (s .entry)) l) (fromHere l (now (variables .entry)) (now (locks .entry))) (now (list .entry)) ≡ ranIn l r (now (variables .exit)) (now (locks .exit)) ⌝ }
     ensures { λ r. ⌜ Kept l sizes (now (variables .exit)) (now (locks .exit)) (r .threads) ⌝ }
 {
-    let mut threads = [Thread { place: 0, registers: [0; 8] }; 8];
+    let start = Thread {
+        place: 0,
+        registers: [0; 8],
+    };
+    let mut threads = [start; 8];
     let mut moved: usize = 0;
     let mut waiting: usize = 0;
     let mut idle: usize = 0;
