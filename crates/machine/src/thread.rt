@@ -135,3 +135,11 @@ pub fn thread_after(i: Instruction, value: u32, th: Thread) -> Thread
         registers: registers,
     }
 }
+
+// The same where the thread stands: lent, and replaced by what it is after the instruction.
+pub fn move_thread(th: &mut Thread, i: Instruction, value: u32)
+    requires { ⌜ FieldsGood 16 64 i × (now th .place ≤ 65535) ⌝ }
+    ensures { λ r. ⌜ now (th .exit) ≡ threadAfter i value (now (th .entry)) ⌝ }
+{
+    *th = thread_after(i, value, *th);
+}
