@@ -183,7 +183,7 @@ module _ (s : List ℕ) (l : Layout) (starts sizes : List ℕ) (prepared : Prepa
   -- the instruction there
   fetched : (getD ths t nobody .place ≡ getD sizes t 0 → ⊥)
       → instructionOf (programOf s l) t (stateIn l vs ks ths)
-        ≡ program.instructionOf (decodeAt (l .locks) (l .variables) s (getD starts t 0 + 4 * getD ths t nobody .place))
+      ≡ program.instructionOf (decodeAt (l .locks) (l .variables) s (getD starts t 0 + 4 * getD ths t nobody .place))
   unfolding instructionOf
   fetched n =
       rw (thread-first, prepared .sections t h .code)
@@ -191,7 +191,7 @@ module _ (s : List ℕ) (l : Layout) (starts sizes : List ℕ) (prepared : Prepa
 
   pub entry-idle : (m w d : ℕ) (ts : List ℕ) → getD ths t nobody .place ≡ getD sizes t 0
       → runFrom (programOf s l) (record { counts = record { moved = m; waiting = w; idle = d }; state = stateIn l vs ks ths }) (t ∷ ts)
-        ≡ runFrom (programOf s l) (record { counts = record { moved = m; waiting = w; idle = d + 1 }; state = stateIn l vs ks ths }) ts
+      ≡ runFrom (programOf s l) (record { counts = record { moved = m; waiting = w; idle = d + 1 }; state = stateIn l vs ks ths }) ts
   entry-idle m w d ts e = run-idle (programOf s l) t _ ts (at-end e)
 
   -- the instruction is not at its code's end, and is the one read from the file
@@ -214,8 +214,10 @@ module _ (s : List ℕ) (l : Layout) (starts sizes : List ℕ) (prepared : Prepa
 
     pub entry-waiting : (m w d : ℕ) (ts r : List ℕ) → shared (accessOf i) ks vs ≡ Waits
         → runFrom (programOf s l) (record { counts = record { moved = m; waiting = w; idle = d }; state = stateIn l vs ks ths }) (t ∷ ts)
-          ≡ runFrom (programOf s l) (record { counts = record { moved = m; waiting = w + 1; idle = d }
-              ; state = stateIn l (variablesAfter (accessOf i) r vs) (locksLeft (accessOf i) t ks) ths }) ts
+        ≡ runFrom (programOf s l) (record {
+          counts = record { moved = m; waiting = w + 1; idle = d };
+          state = stateIn l (variablesAfter (accessOf i) r vs) (locksLeft (accessOf i) t ks) ths;
+        }) ts
     unfolding locksLeft
     entry-waiting m w d ts r e =
         let f = shared-waits (accessOf i) ks vs e in
@@ -231,18 +233,26 @@ module _ (s : List ℕ) (l : Layout) (starts sizes : List ℕ) (prepared : Prepa
 
     pub entry-moved : (m w d : ℕ) (ts : List ℕ) (x : ℕ) → shared (accessOf i) ks vs ≡ Made x
         → runFrom (programOf s l) (record { counts = record { moved = m; waiting = w; idle = d }; state = stateIn l vs ks ths }) (t ∷ ts)
-          ≡ runFrom (programOf s l) (record { counts = record { moved = m + 1; waiting = w; idle = d }
-              ; state = stateIn l (variablesAfter (accessOf i) (getD ths t nobody .registers) vs) (locksLeft (accessOf i) t ks)
-                  (set ths t (threadAfter i x (getD ths t nobody))) }) ts
+        ≡ runFrom (programOf s l) (record {
+          counts = record { moved = m + 1; waiting = w; idle = d };
+          state = stateIn l (variablesAfter (accessOf i) (getD ths t nobody .registers) vs) (locksLeft (accessOf i) t ks)
+              (set ths t (threadAfter i x (getD ths t nobody)));
+        }) ts
     unfolding locksLeft moveBy
     entry-moved m w d ts x e =
         let f = shared-made (accessOf i) ks vs x e in
         run-moved (programOf s l) t _ ts (not-at-end n)
         (rw here (waits-first (l .locks) (l .variables) (accessOf i) ks reached ∙ f .0))
-        ∙ rw (here, thread-first, f .0, value-first (l .locks) (l .variables) (accessOf i) vs reached, f .1,
-            variables-first (l .locks) (l .variables) (accessOf i) (getD ths t nobody .registers) vs reached,
-            locks-first (l .locks) (l .variables) (accessOf i) t ks reached,
-            take-set-lt (l .threads) ths t (threadAfter i x (getD ths t nobody)) h)
+        ∙ rw (
+          here,
+          thread-first,
+          f .0,
+          value-first (l .locks) (l .variables) (accessOf i) vs reached,
+          f .1,
+          variables-first (l .locks) (l .variables) (accessOf i) (getD ths t nobody .registers) vs reached,
+          locks-first (l .locks) (l .variables) (accessOf i) t ks reached,
+          take-set-lt (l .threads) ths t (threadAfter i x (getD ths t nobody)) h,
+        )
 
     -- it goes to a place of its code, or to the code's end
     goes : (r : List ℕ) → placeAfter i r (getD ths t nobody .place) ≤ getD sizes t 0
@@ -254,27 +264,27 @@ module _ (s : List ℕ) (l : Layout) (starts sizes : List ℕ) (prepared : Prepa
 
     places-after : (x u : ℕ) → u < l .threads → getD (set ths t (threadAfter i x (getD ths t nobody))) u nobody .place ≤ getD sizes u 0
     unfolding threadAfter
-    places-after x u k = elim (ℕ-discrete u t)
-      [ yes e ↦ rw (e, getD-set-same ths t (threadAfter i x (getD ths t nobody)) nobody (omega (arith, prepared .threads, kept .threads))) (goes (getD ths t nobody .registers))
+    places-after x u k = elim (ℕ-discrete u t) [
+      | yes e ↦ rw (e, getD-set-same ths t (threadAfter i x (getD ths t nobody)) nobody (omega (arith, prepared .threads, kept .threads))) (goes (getD ths t nobody .registers))
       | no e ↦ rw (getD-set-other ths t u (threadAfter i x (getD ths t nobody)) nobody e) (kept .places u k)
-      ]
+    ]
 
     registers-after : (x : ℕ) → EightRegisters (set ths t (threadAfter i x (getD ths t nobody)))
     unfolding threadAfter EightRegisters
-    registers-after x u k = elim (ℕ-discrete u t)
-      [ yes e ↦ rw (e, getD-set-same ths t (threadAfter i x (getD ths t nobody)) nobody (omega (arith, prepared .threads, kept .threads)))
+    registers-after x u k = elim (ℕ-discrete u t) [
+      | yes e ↦ rw (e, getD-set-same ths t (threadAfter i x (getD ths t nobody)) nobody (omega (arith, prepared .threads, kept .threads)))
           (length-registers-after i x (getD ths t nobody .registers) ∙ kept .registers t (omega (arith, prepared .threads)))
       | no e ↦ rw (getD-set-other ths t u (threadAfter i x (getD ths t nobody)) nobody e) (kept .registers u k)
-      ]
+    ]
 
     pub kept-moved : (x : ℕ) → shared (accessOf i) ks vs ≡ Made x
         → Kept l sizes (variablesAfter (accessOf i) (getD ths t nobody .registers) vs) (locksLeft (accessOf i) t ks)
-            (set ths t (threadAfter i x (getD ths t nobody)))
+        (set ths t (threadAfter i x (getD ths t nobody)))
     unfolding locksLeft
-    kept-moved x e = rw (shared-made (accessOf i) ks vs x e .0) record
-      { variables = length-variables-after (accessOf i) (getD ths t nobody .registers) vs ∙ kept .variables
-      ; locks = length-locks-after (accessOf i) t ks ∙ kept .locks
-      ; threads = length-set ths t (threadAfter i x (getD ths t nobody)) ∙ kept .threads
-      ; places = places-after x
-      ; registers = registers-after x
-      }
+    kept-moved x e = rw (shared-made (accessOf i) ks vs x e .0) record {
+      variables = length-variables-after (accessOf i) (getD ths t nobody .registers) vs ∙ kept .variables;
+      locks = length-locks-after (accessOf i) t ks ∙ kept .locks;
+      threads = length-set ths t (threadAfter i x (getD ths t nobody)) ∙ kept .threads;
+      places = places-after x;
+      registers = registers-after x;
+    }

@@ -29,6 +29,6 @@ module _ (p : Program) (t : ℕ) (r : Run) (ts : List ℕ) where
   pub run-moved : (threadOf (r .state) t .place ≡ length (codeOf p t) → ⊥)
       → waits (accessOf (instructionOf p t (r .state))) (r .state .locks) ≡ false
       → runFrom p r (t ∷ ts)
-        ≡ runFrom p (record { counts = counted Moved (r .counts); state = moveBy (instructionOf p t (r .state)) t (r .state) }) ts
+      ≡ runFrom p (record { counts = counted Moved (r .counts); state = moveBy (instructionOf p t (r .state)) t (r .state) }) ts
   unfolding runFrom step outcome
   run-moved e w = rw (ne-eqb _ _ e, w)

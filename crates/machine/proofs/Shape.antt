@@ -44,22 +44,22 @@ registers-set (x ∷ ths) (suc t) th e h (suc u) = registers-set ths t th e (λ 
 module _ (p : Program) where
   pub shape-start : Shape p (start p)
   unfolding start threadOf fresh
-  shape-start = record
-    { variables = length-map (p .variables) (λ (v : Variable). v .initial)
-    ; locks = length-replicate (p .locks) 0
-    ; threads = length-map (p .threads) (λ (c : CodeSection). fresh)
-    ; registers = λ t. ap (λ (th : Thread). length (th .registers))
-        (List·getD-map (λ (c : CodeSection). fresh) (p .threads) t (record { start = 0; code = [] }))
-    }
+  shape-start = record {
+    variables = length-map (p .variables) (λ (v : Variable). v .initial);
+    locks = length-replicate (p .locks) 0;
+    threads = length-map (p .threads) (λ (c : CodeSection). fresh);
+    registers = λ t. ap (λ (th : Thread). length (th .registers))
+        (List·getD-map (λ (c : CodeSection). fresh) (p .threads) t (record { start = 0; code = [] }));
+  }
 
   shape-moved : (i : Instruction) (t : ℕ) (s : State) → Shape p s → Shape p (moveBy i t s)
   unfolding moveBy threadAfter threadOf
-  shape-moved i t s h = record
-    { variables = length-variables-after (accessOf i) (threadOf s t .registers) (s .variables) ∙ h .variables
-    ; locks = length-locks-after (accessOf i) t (s .locks) ∙ h .locks
-    ; threads = length-set (s .threads) t _ ∙ h .threads
-    ; registers = registers-set (s .threads) t _ (length-registers-after i (valueRead (accessOf i) (s .variables)) (threadOf s t .registers) ∙ h .registers t) (h .registers)
-    }
+  shape-moved i t s h = record {
+    variables = length-variables-after (accessOf i) (threadOf s t .registers) (s .variables) ∙ h .variables;
+    locks = length-locks-after (accessOf i) t (s .locks) ∙ h .locks;
+    threads = length-set (s .threads) t _ ∙ h .threads;
+    registers = registers-set (s .threads) t _ (length-registers-after i (valueRead (accessOf i) (s .variables)) (threadOf s t .registers) ∙ h .registers t) (h .registers);
+  }
 
   shape-after : (o : Outcome) (s s′ : State) → Shape p s → Shape p s′ → Shape p (after o s s′)
   shape-after Moved s s′ h h′ = h′
@@ -82,8 +82,15 @@ module _ (p : Program) where
   pub length-state : (s : State) → Shape p s → length (stateBytes s) ≡ 4 * length (p .variables) + p .locks + 34 * length (p .threads)
   unfolding stateBytes threadOf
   length-state s h =
-      rw (length-append, length-append, length-words, h .variables, h .locks,
-          length-each threadBytes 34 (s .threads) fresh (λ i l. length-thread (getD (s .threads) i fresh) (h .registers i)), h .threads)
+      rw (
+        length-append,
+        length-append,
+        length-words,
+        h .variables,
+        h .locks,
+        length-each threadBytes 34 (s .threads) fresh (λ i l. length-thread (getD (s .threads) i fresh) (h .registers i)),
+        h .threads,
+      )
 
   pub length-end : (ts : List ℕ) → length (stateBytes (run p ts .state)) ≡ 4 * length (p .variables) + p .locks + 34 * length (p .threads)
   length-end ts = length-state (run p ts .state) (shape-run ts)

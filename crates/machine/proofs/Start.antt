@@ -45,8 +45,13 @@ module _ (s : List ℕ) (l : Layout) where
       → take i vs ≡ take i (start (programOf s l) .variables)
       → take (i + 1) (set vs i (wordAt s (5 + 6 * i + 2))) ≡ take (i + 1) (start (programOf s l) .variables)
   initial-next vs i h k e =
-      rw (add-one, take-suc-set vs i (wordAt s (5 + 6 * i + 2)) k, take-suc (start (programOf s l) .variables) i 0 (omega (arith, length-initial)),
-          initial-value i h, e)
+      rw (
+        add-one,
+        take-suc-set vs i (wordAt s (5 + 6 * i + 2)) k,
+        take-suc (start (programOf s l) .variables) i 0 (omega (arith, length-initial)),
+        initial-value i h,
+        e,
+      )
 
 -- ---- the code sections
 
@@ -73,7 +78,7 @@ module _ (s : List ℕ) (l : Layout) (t at : ℕ) (h : t < l .threads) (x : Sect
 
   rest-here : drop t (programOf s l .threads)
       ≡ record { start = at + 2; code = instructionsAt (l .locks) (l .variables) s (countAt s at) (at + 2) }
-        ∷ threadsAt (l .locks) (l .variables) s (l .threads - (t + 1)) (at + 2 + 4 * countAt s at)
+      ∷ threadsAt (l .locks) (l .variables) s (l .threads - (t + 1)) (at + 2 + 4 * countAt s at)
   unfolding threadsAt
   rest-here = x .rest ∙ ap (λ (n : ℕ). threadsAt (l .locks) (l .variables) s n at) one-more
 
@@ -96,10 +101,10 @@ module _ (s : List ℕ) (l : Layout) (t at : ℕ) (h : t < l .threads) (x : Sect
 pub located-next : (s : List ℕ) (l : Layout) (starts sizes : List ℕ) (t a n : ℕ) → t < length starts → t < length sizes
     → ((u : ℕ) → u < t → Located s l (getD starts u 0) (getD sizes u 0) u) → Located s l a n t
     → (u : ℕ) → u < t + 1 → Located s l (getD (set starts t a) u 0) (getD (set sizes t n) u 0) u
-located-next s l starts sizes t a n p q before here u h = elim (ℕ-discrete u t)
-  [ yes e ↦ rw (e, getD-set-same starts t a 0 p, getD-set-same sizes t n 0 q) here
+located-next s l starts sizes t a n p q before here u h = elim (ℕ-discrete u t) [
+  | yes e ↦ rw (e, getD-set-same starts t a 0 p, getD-set-same sizes t n 0 q) here
   | no e ↦ rw (getD-set-other starts t u a 0 e, getD-set-other sizes t u n 0 e) (before u (omega arith))
-  ]
+]
 
 -- ---- the start in arrays
 
@@ -116,6 +121,10 @@ pub start-in : (s : List ℕ) (l : Layout) (vs : List ℕ) → l .locks ≤ 16 �
     → stateIn l vs (replicate 16 0) (replicate 8 fresh) ≡ start (programOf s l)
 unfolding start programOf
 start-in s l vs p q e =
-    rw (e, take-replicate {A = ℕ} (l .locks) 16 0 p, take-replicate (l .threads) 8 fresh q,
-        map-same (threadsAt (l .locks) (l .variables) s (l .threads) (5 + 6 * l .variables)) fresh,
-        length-threads (l .locks) (l .variables) s (l .threads) (5 + 6 * l .variables))
+    rw (
+      e,
+      take-replicate {A = ℕ} (l .locks) 16 0 p,
+      take-replicate (l .threads) 8 fresh q,
+      map-same (threadsAt (l .locks) (l .variables) s (l .threads) (5 + 6 * l .variables)) fresh,
+      length-threads (l .locks) (l .variables) s (l .threads) (5 + 6 * l .variables),
+    )

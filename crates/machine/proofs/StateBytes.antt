@@ -77,8 +77,15 @@ pub write-state : (out : List ℕ) (s : State) (n m : ℕ) → length (each word
     → sets (sets (sets out 0 (each wordBytes (s .variables))) n (s .locks)) m (each threadBytes (s .threads)) ≡ sets out 0 (stateBytes s)
 unfolding stateBytes
 write-state out s n m e f =
-    rw (sets-append (each wordBytes (s .variables) ++ s .locks) (each threadBytes (s .threads)) out 0, sets-append (each wordBytes (s .variables)) (s .locks) out 0,
-        length-append, e, zero-add, zero-add, f)
+    rw (
+      sets-append (each wordBytes (s .variables) ++ s .locks) (each threadBytes (s .threads)) out 0,
+      sets-append (each wordBytes (s .variables)) (s .locks) out 0,
+      length-append,
+      e,
+      zero-add,
+      zero-add,
+      f,
+    )
 
 -- bytes written at the front, and the later ones kept
 pub sets-front : (xs out : List ℕ) → length xs ≤ length out → sets out 0 xs ≡ xs ++ drop (length xs) out

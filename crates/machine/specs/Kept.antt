@@ -17,11 +17,11 @@ use Rattle.machine.specs.declared.thread.Thread.{Thread}
 
 -- the state in arrays
 abbrev pub stateIn : Layout → (variables locks : List ℕ) → List Thread → State
-stateIn l variables locks threads = record
-  { variables = take (l .variables) variables
-  ; locks = take (l .locks) locks
-  ; threads = take (l .threads) threads
-  }
+stateIn l variables locks threads = record {
+  variables = take (l .variables) variables;
+  locks = take (l .locks) locks;
+  threads = take (l .threads) threads;
+}
 
 -- the counts, as the code has them
 abbrev pub countsOf : Counts → run.Counts

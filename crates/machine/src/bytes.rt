@@ -1,7 +1,6 @@
 // The state's bytes (document 01, "The step machine": "It writes the end state").
-use program::layout::Layout;
 use crate::thread::Thread;
-
+use program::layout::Layout;
 ghost use mathlib.Core.Path.{_≡_};
 ghost use Prim.Native.Nat.{_+_, _*_, _≤_};
 ghost use lib.ListN.{length, take};

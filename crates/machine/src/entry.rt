@@ -1,7 +1,6 @@
 // One entry of the list: the shared access that an instruction makes (document 01, "The step machine").
-use program::instruction::Instruction;
 use crate::thread::register;
-
+use program::instruction::Instruction;
 ghost use mathlib.Core.Path.{_≡_};
 ghost use Prim.Native.Nat.{_<_};
 ghost use Rattle.machine.specs.Reached.{shared, locksLeft};
@@ -31,7 +30,13 @@ fn take(k: u8, t: u8, locks: &mut [u8; 16]) -> Shared
     Shared::Waits
 }
 
-pub fn access(i: Instruction, t: u8, r: [u32; 8], variables: &mut [u32; 64], locks: &mut [u8; 16]) -> Shared
+pub fn access(
+    i: Instruction,
+    t: u8,
+    r: [u32; 8],
+    variables: &mut [u32; 64],
+    locks: &mut [u8; 16],
+) -> Shared
     requires { ⌜ FieldsGood 16 64 i × (t < 8) ⌝ }
     ensures { λ q. ⌜ q ≡ shared (accessOf i) (now (locks .entry)) (now (variables .entry)) ⌝ }
     ensures { λ q. ⌜ now (variables .exit) ≡ variablesAfter (accessOf i) r (now (variables .entry)) ⌝ }

@@ -1,7 +1,7 @@
 // The start of a run: the initial values, and where each thread's code lies (document 01, "The file", "The step machine").
-use program::layout::{Layout, code_count};
+use program::layout::Layout;
+use program::layout::code_count;
 use program::variable::initial_at;
-
 ghost use mathlib.Core.Path.{_≡_};
 ghost use Prim.Native.Nat.{_+_, _*_, _≤_};
 ghost use lib.ListN.{length, take};

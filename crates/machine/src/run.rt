@@ -1,11 +1,13 @@
 // A list of entries, run from the start (document 01, "The step machine").
+use crate::bytes::write_state;
+use crate::entry::Shared;
+use crate::entry::access;
+use crate::prepare::find_code;
+use crate::prepare::initial_values;
+use crate::thread::Thread;
+use crate::thread::thread_after;
 use program::instruction::instruction_at;
 use program::layout::Layout;
-use crate::thread::{Thread, thread_after};
-use crate::entry::{Shared, access};
-use crate::prepare::{initial_values, find_code};
-use crate::bytes::write_state;
-
 ghost use mathlib.Core.Path.{_≡_};
 ghost use mathlib.Core.List.{_++_};
 ghost use Prim.Native.Nat.{_+_, _*_, _≤_};
@@ -30,7 +32,15 @@ pub struct Ran {
 }
 
 // The entries of a list, one after the other.
-fn entries(s: &[u8], l: Layout, list: &[u8], starts: [usize; 8], sizes: [usize; 8], variables: &mut [u32; 64], locks: &mut [u8; 16]) -> Ran
+fn entries(
+    s: &[u8],
+    l: Layout,
+    list: &[u8],
+    starts: [usize; 8],
+    sizes: [usize; 8],
+    variables: &mut [u32; 64],
+    locks: &mut [u8; 16],
+) -> Ran
     requires { ⌜ Prepared (now s) l starts sizes × Entries l (now list) × (length (now variables) ≡ 64) × (length (now locks) ≡ 16) ⌝ }
     ensures { λ r. ⌜ runFrom (programOf (now (s .entry)) l) (fromHere l (now (variables .entry)) (now (locks .entry))) (now (list .entry)) ≡ ranIn l r (now (variables .exit)) (now (locks .exit)) ⌝ }
     ensures { λ r. ⌜ Kept l sizes (now (variables .exit)) (now (locks .exit)) (r .threads) ⌝ }

@@ -1,6 +1,5 @@
 // A thread's part of the state, and what an entry of the list did (document 01, "The step machine").
 use program::instruction::Instruction;
-
 ghost use mathlib.Core.Path.{_≡_};
 ghost use Prim.Native.Nat.{_+_, _-_, _%_, _^_, _≤_, _<_};
 ghost use lib.ListN.{set};
@@ -46,8 +45,16 @@ fn registers_after(i: Instruction, value: u32, r: [u32; 8]) -> [u32; 8]
     match i {
         Instruction::Set(a, n) => with_register(r, a, n as u32),
         Instruction::Copy(a, b) => with_register(r, a, register(r, b)),
-        Instruction::Add(a, b, c) => with_register(r, a, std::num::wrapping_add_u32(register(r, b), register(r, c))),
-        Instruction::Sub(a, b, c) => with_register(r, a, difference(register(r, b), register(r, c))),
+        Instruction::Add(a, b, c) => with_register(
+            r,
+            a,
+            std::num::wrapping_add_u32(register(r, b), register(r, c)),
+        ),
+        Instruction::Sub(a, b, c) => with_register(
+            r,
+            a,
+            difference(register(r, b), register(r, c)),
+        ),
         Instruction::Less(a, b, c) => with_register(r, a, less(register(r, b), register(r, c))),
         Instruction::Read(a, _) => with_register(r, a, value),
         Instruction::Write(_, _) => r,

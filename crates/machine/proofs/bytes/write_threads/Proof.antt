@@ -50,13 +50,13 @@ loop-again c =
     let s = c .before .before .before .before .before .before .before .before in
     let a = s .args in
     let w = c .before .before .write-thread in
-    let e : length (a .t4) ≡ 8 = search needs in
-    ( omega arith
-    , w .kept .0 ∙ o .inv .1
-    , w .ensures
-      ∙ rw (o .inv .2)
-      (write-each threadBytes 34 (a .out .now) (a .at) (a .t4) (o .i) nobody (omega arith)
-      (length-first-threads (a .t4) (o .i) (omega arith) (λ i h. s .pre .2 i (omega arith))))
+    let e : length (a .t4) ≡ 8 = search needs in (
+      omega arith,
+      w .kept .0 ∙ o .inv .1,
+      w .ensures
+          ∙ rw (o .inv .2)
+          (write-each threadBytes 34 (a .out .now) (a .at) (a .t4) (o .i) nobody (omega arith)
+          (length-first-threads (a .t4) (o .i) (omega arith) (λ i h. s .pre .2 i (omega arith)))),
     )
 
 same-length : tie.Need-same-length Inv-loop μ-loop

@@ -45,11 +45,11 @@ loop-again : tie.Need-loop-again Inv-loop μ-loop
 loop-again c =
     let o = c .before .before .before .before .before .before .loop in
     let a = c .before .before .before .before .before .before .before .before .before .args in
-    let w = c .before .before .write-word in
-    ( omega arith
-    , w .kept .0 ∙ o .inv .1
-    , w .ensures
-      ∙ rw (o .inv .2) (write-each wordBytes 4 (a .out .now) (a .at) (a .words .now) (o .i) 0 (omega arith) (length-first-words (a .words .now) (o .i) (omega arith)))
+    let w = c .before .before .write-word in (
+      omega arith,
+      w .kept .0 ∙ o .inv .1,
+      w .ensures
+          ∙ rw (o .inv .2) (write-each wordBytes 4 (a .out .now) (a .at) (a .words .now) (o .i) 0 (omega arith) (length-first-words (a .words .now) (o .i) (omega arith))),
     )
 
 same-length : tie.Need-same-length Inv-loop μ-loop

@@ -79,27 +79,27 @@ loop-again c =
     let o = c .before .before .before .loop in
     let b = c .before .before .before .before .before .before in
     let a = b .args in
-    let h = c .before .if1 .taken in
-    ( omega arith
-    , simp length-set (o .inv .1)
-    , simp length-set (o .inv .2)
-    , rw (c .code-count .ensures) (sections-next (a .s .now) (a .l) (o .t) (o .at) h (o .inv .3))
-    , rw (c .code-count .ensures)
-      (located-next (a .s .now) (a .l) (o .starts) (o .sizes) (o .t) (o .at + 2) (countAt (a .s .now) (o .at))
-      (omega (arith, b .pre .0 .threads)) (omega (arith, b .pre .0 .threads)) (o .inv .4)
-      (section-located (a .s .now) (a .l) (o .t) (o .at) h (o .inv .3)))
+    let h = c .before .if1 .taken in (
+      omega arith,
+      simp length-set (o .inv .1),
+      simp length-set (o .inv .2),
+      rw (c .code-count .ensures) (sections-next (a .s .now) (a .l) (o .t) (o .at) h (o .inv .3)),
+      rw (c .code-count .ensures)
+          (located-next (a .s .now) (a .l) (o .starts) (o .sizes) (o .t) (o .at + 2) (countAt (a .s .now) (o .at))
+          (omega (arith, b .pre .0 .threads)) (omega (arith, b .pre .0 .threads)) (o .inv .4)
+          (section-located (a .s .now) (a .l) (o .t) (o .at) h (o .inv .3))),
     )
 
 returns : tie.Need-returns Inv-loop μ-loop
 returns c =
     let b = c .before .before .before .before .before in
     let o = c .before .before .loop in
-    record
-      { locks = b .pre .0 .locks
-      ; threads = b .pre .0 .threads
-      ; variables = b .pre .0 .variables
-      ; sections = λ t h. o .inv .4 t (omega (arith, c .if1 .left))
-      }
+    record {
+      locks = b .pre .0 .locks;
+      threads = b .pre .0 .threads;
+      variables = b .pre .0 .variables;
+      sections = λ t h. o .inv .4 t (omega (arith, c .if1 .left));
+    }
 
 pub find-code-spec : {M : Type 1} → statement M
 find-code-spec =

@@ -45,11 +45,11 @@ loop-less c = search needs
 loop-again : tie.Need-loop-again Inv-loop μ-loop
 loop-again c =
     let o = c .before .before .before .loop in
-    let a = c .before .before .before .before .before .args in
-    ( omega arith
-    , simp length-set (o .inv .1)
-    , rw (c .initial-at .ensures)
-      (initial-next (a .s .now) (a .l) (o .variables) (o .i) (c .before .if1 .taken) (omega (arith, c .before .before .before .before .before .pre .0 .variables)) (o .inv .2))
+    let a = c .before .before .before .before .before .args in (
+      omega arith,
+      simp length-set (o .inv .1),
+      rw (c .initial-at .ensures)
+          (initial-next (a .s .now) (a .l) (o .variables) (o .i) (c .before .if1 .taken) (omega (arith, c .before .before .before .before .before .pre .0 .variables)) (o .inv .2)),
     )
 
 returns : tie.Need-returns Inv-loop μ-loop

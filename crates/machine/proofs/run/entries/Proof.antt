@@ -23,7 +23,7 @@ Inv-loop s l list variables₀ locks₀ starts sizes threads₀ moved₀ waiting
     × (moved + waiting + idle ≡ i)
     × Kept l sizes variables locks threads
     × (runFrom (programOf s l) (fromHere l variables₀ locks₀) list
-        ≡ runFrom (programOf s l) (record { counts = record { moved = moved; waiting = waiting; idle = idle }; state = stateIn l variables locks threads }) (drop i list))
+    ≡ runFrom (programOf s l) (record { counts = record { moved = moved; waiting = waiting; idle = idle }; state = stateIn l variables locks threads }) (drop i list))
 
 abbrev μ-loop : tie.MeasureT-loop
 μ-loop s l list variables₀ locks₀ starts sizes threads₀ moved₀ waiting₀ idle₀ i₀ variables locks threads moved waiting idle i =
@@ -47,22 +47,22 @@ small c = omega (arith, thread-number c, c .before .before .before .before .befo
 -- its code
 located : (c : tie.After-shared-slice-known3 Inv-loop μ-loop)
     → let a = c .before .before .before .before .before .args in
-      let t = getD (a .list .now) (c .before .before .loop .i) 0 in
-      Located (a .s .now) (a .l) (getD (a .t4) t 0) (getD (a .t5) t 0) t
+    let t = getD (a .list .now) (c .before .before .loop .i) 0 in
+    Located (a .s .now) (a .l) (getD (a .t4) t 0) (getD (a .t5) t 0) t
 located c = c .before .before .before .before .before .pre .0 .sections _ (thread-number c)
 
 -- its place is within its code
 placed : (c : tie.After-shared-slice-known3 Inv-loop μ-loop)
     → let a = c .before .before .before .before .before .args in
-      let t = getD (a .list .now) (c .before .before .loop .i) 0 in
-      getD (c .before .before .loop .threads) t nobody .place ≤ getD (a .t5) t 0
+    let t = getD (a .list .now) (c .before .before .loop .i) 0 in
+    getD (c .before .before .loop .threads) t nobody .place ≤ getD (a .t5) t 0
 placed c = c .before .before .loop .inv .2 .places _ (thread-number c)
 
 -- where it is not at its code's end, it is at an instruction
 at-instruction : (c : tie.Else1 Inv-loop μ-loop)
     → let a = c .before .before .before .before .before .before .before .args in
-      let t = getD (a .list .now) (c .before .before .before .before .loop .i) 0 in
-      getD (c .before .before .before .before .loop .threads) t nobody .place < getD (a .t5) t 0
+    let t = getD (a .list .now) (c .before .before .before .before .loop .i) 0 in
+    getD (c .before .before .before .before .loop .threads) t nobody .place < getD (a .t5) t 0
 at-instruction c = omega (arith, placed (c .before .before), c .if1 .left)
 
 -- whose fields are good
@@ -76,7 +76,7 @@ named c =
 
 loop-holds : tie.Need-loop-holds Inv-loop μ-loop
 unfolding fresh
-loop-holds c = 
+loop-holds c =
     let a = c .before .before .args in
     (search needs, refl, kept-start (a .l) (a .t5) (a .variables .now) (a .locks .now) (c .before .before .pre .2) (c .before .before .pre .3), refl)
 
@@ -111,11 +111,13 @@ loop-again : tie.Need-loop-again Inv-loop μ-loop
 loop-again c =
     let k = c .before .before in
     let b = k .before .before .before .before .before in
-    let o = k .before .before .loop in
-    ( omega arith, omega arith, o .inv .2
-    , o .inv .3 ∙ ap (runFrom (programOf (b .args .s .now) (b .args .l)) _) (drop-next (b .args .list .now) (o .i) (k .before .loop-test .taken))
-      ∙ entry-idle (b .args .s .now) (b .args .l) (b .args .t4) (b .args .t5) (b .pre .0) (o .variables) (o .locks) (o .threads) (o .inv .2)
-        (getD (b .args .list .now) (o .i) 0) (thread-number k) (o .moved) (o .waiting) (o .idle) (drop (o .i + 1) (b .args .list .now)) (c .if1 .taken)
+    let o = k .before .before .loop in (
+      omega arith,
+      omega arith,
+      o .inv .2,
+      o .inv .3 ∙ ap (runFrom (programOf (b .args .s .now) (b .args .l)) _) (drop-next (b .args .list .now) (o .i) (k .before .loop-test .taken))
+          ∙ entry-idle (b .args .s .now) (b .args .l) (b .args .t4) (b .args .t5) (b .pre .0) (o .variables) (o .locks) (o .threads) (o .inv .2)
+          (getD (b .args .list .now) (o .i) 0) (thread-number k) (o .moved) (o .waiting) (o .idle) (drop (o .i + 1) (b .args .list .now)) (c .if1 .taken),
     )
 
 mul-instruction-at : tie.Need-mul-instruction-at Inv-loop μ-loop
@@ -156,10 +158,11 @@ loop-again-2 c =
     let i = q .instruction-at .result in
     let next = o .inv .3 ∙ ap (runFrom (programOf (b .args .s .now) (b .args .l)) _) (drop-next (b .args .list .now) (o .i) (k .before .loop-test .taken)) in
     let e = sym (u .ensures .0) ∙ c .enum-told .given .1 in
-    let r = getD (o .threads) t nobody .registers in
-    ( omega arith, omega arith
-    , rw (u .ensures .1 .0, u .ensures .1 .1) (kept-waiting (b .args .s .now) (b .args .l) (b .args .t4) (b .args .t5) (b .pre .0) (o .variables) (o .locks) (o .threads) (o .inv .2) t (thread-number k) i (q .before .if1 .left) (q .instruction-at .ensures) r e)
-    , rw (u .ensures .1 .0, u .ensures .1 .1) (next ∙ entry-waiting (b .args .s .now) (b .args .l) (b .args .t4) (b .args .t5) (b .pre .0) (o .variables) (o .locks) (o .threads) (o .inv .2) t (thread-number k) i (q .before .if1 .left) (q .instruction-at .ensures) (o .moved) (o .waiting) (o .idle) (drop (o .i + 1) (b .args .list .now)) r e)
+    let r = getD (o .threads) t nobody .registers in (
+      omega arith,
+      omega arith,
+      rw (u .ensures .1 .0, u .ensures .1 .1) (kept-waiting (b .args .s .now) (b .args .l) (b .args .t4) (b .args .t5) (b .pre .0) (o .variables) (o .locks) (o .threads) (o .inv .2) t (thread-number k) i (q .before .if1 .left) (q .instruction-at .ensures) r e),
+      rw (u .ensures .1 .0, u .ensures .1 .1) (next ∙ entry-waiting (b .args .s .now) (b .args .l) (b .args .t4) (b .args .t5) (b .pre .0) (o .variables) (o .locks) (o .threads) (o .inv .2) t (thread-number k) i (q .before .if1 .left) (q .instruction-at .ensures) (o .moved) (o .waiting) (o .idle) (drop (o .i + 1) (b .args .list .now)) r e),
     )
 
 enum-known-x : tie.Need-enum-known-x Inv-loop μ-loop
@@ -191,10 +194,11 @@ loop-again-3 c =
     let i = q .instruction-at .result in
     let next = o .inv .3 ∙ ap (runFrom (programOf (b .args .s .now) (b .args .l)) _) (drop-next (b .args .list .now) (o .i) (k .before .loop-test .taken)) in
     let x = c .before .before .x .given .0 .0 in
-    let e = sym (u .ensures .0) ∙ c .before .before .x .given .1 in
-    ( omega arith, omega arith
-    , rw (c .thread-after .ensures, u .ensures .1 .0, u .ensures .1 .1) (kept-moved (b .args .s .now) (b .args .l) (b .args .t4) (b .args .t5) (b .pre .0) (o .variables) (o .locks) (o .threads) (o .inv .2) t (thread-number k) i (q .before .if1 .left) (q .instruction-at .ensures) x e)
-    , rw (c .thread-after .ensures, u .ensures .1 .0, u .ensures .1 .1) (next ∙ entry-moved (b .args .s .now) (b .args .l) (b .args .t4) (b .args .t5) (b .pre .0) (o .variables) (o .locks) (o .threads) (o .inv .2) t (thread-number k) i (q .before .if1 .left) (q .instruction-at .ensures) (o .moved) (o .waiting) (o .idle) (drop (o .i + 1) (b .args .list .now)) x e)
+    let e = sym (u .ensures .0) ∙ c .before .before .x .given .1 in (
+      omega arith,
+      omega arith,
+      rw (c .thread-after .ensures, u .ensures .1 .0, u .ensures .1 .1) (kept-moved (b .args .s .now) (b .args .l) (b .args .t4) (b .args .t5) (b .pre .0) (o .variables) (o .locks) (o .threads) (o .inv .2) t (thread-number k) i (q .before .if1 .left) (q .instruction-at .ensures) x e),
+      rw (c .thread-after .ensures, u .ensures .1 .0, u .ensures .1 .1) (next ∙ entry-moved (b .args .s .now) (b .args .l) (b .args .t4) (b .args .t5) (b .pre .0) (o .variables) (o .locks) (o .threads) (o .inv .2) t (thread-number k) i (q .before .if1 .left) (q .instruction-at .ensures) (o .moved) (o .waiting) (o .idle) (drop (o .i + 1) (b .args .list .now)) x e),
     )
 
 returns : tie.Need-returns Inv-loop μ-loop

@@ -40,8 +40,8 @@ same-length c = search needs
 -- what the entries left is the whole list's run
 ran : (c : tie.After-entries)
     → let a = c .before .before .before .before .before .before .before .before .before .before .before .args in
-      run (programOf (a .s .now) (a .l)) (a .list .now)
-      ≡ ranIn (a .l) (c .entries .result) (c .entries .last .1 .1 .1 .1 .1 .0) (c .entries .last .1 .1 .1 .1 .1 .1 .0)
+    run (programOf (a .s .now) (a .l)) (a .list .now)
+    ≡ ranIn (a .l) (c .entries .result) (c .entries .last .1 .1 .1 .1 .1 .0) (c .entries .last .1 .1 .1 .1 .1 .1 .0)
 unfolding run fresh
 ran c =
     let b = c .before .before .before .before .before .before .before .before .before .before .before in
@@ -54,11 +54,11 @@ returns c =
     let b = c .before .before .before .before .before .before .before .before .before .before .before .before .before .before .before .before .before .before .before in
     let a = b .args in
     let p = programOf (a .s .now) (a .l) in
-    let e = ran (c .before .before .before .before .before .before .before .before) in
-    ( ap (λ (r : Run). r .counts) (sym e)
-    , c .before .before .before .write-state .ensures
-      ∙ ap (λ (r : Run). sets (a .out .now) 0 (stateBytes (r .state))) (sym e)
-      ∙ sets-front (stateBytes (run p (a .list .now) .state)) (a .out .now) (omega (arith, length-end-file (a .s .now) (a .l) (a .list .now), b .pre .2))
+    let e = ran (c .before .before .before .before .before .before .before .before) in (
+      ap (λ (r : Run). r .counts) (sym e),
+      c .before .before .before .write-state .ensures
+          ∙ ap (λ (r : Run). sets (a .out .now) 0 (stateBytes (r .state))) (sym e)
+          ∙ sets-front (stateBytes (run p (a .list .now) .state)) (a .out .now) (omega (arith, length-end-file (a .s .now) (a .l) (a .list .now), b .pre .2)),
     )
 
 pub run-list-spec : {M : Type 1} → statement M

@@ -117,17 +117,17 @@ returns-2 c = rw (c .with-register2 .ensures, c .before .register .ensures, c .b
 
 returns-3 : tie.Need-returns-3
 unfolding registersAfter
-returns-3 c = 
+returns-3 c =
     rw (c .with-register3 .ensures, c .before .wrapping-add-u32 .ensures, c .before .before .register3 .ensures, c .before .before .before .register2 .ensures, c .before .before .before .before .before .i3 .given .1)
 
 returns-4 : tie.Need-returns-4
 unfolding registersAfter
-returns-4 c = 
+returns-4 c =
     rw (c .with-register4 .ensures, c .before .difference .ensures, c .before .before .register5 .ensures, c .before .before .before .register4 .ensures, c .before .before .before .before .before .i4 .given .1)
 
 returns-5 : tie.Need-returns-5
 unfolding registersAfter
-returns-5 c = 
+returns-5 c =
     rw (c .with-register5 .ensures, c .before .less .ensures, c .before .before .register7 .ensures, c .before .before .before .register6 .ensures, c .before .before .before .before .before .i5 .given .1)
 
 returns-6 : tie.Need-returns-6
