@@ -2,8 +2,8 @@
 --     wider           its fields fit arrays that are at least as long as the counts
 --     access-below    its shared access lies below the counts
 --     place-inside    from a place of well nested code it goes to a place of that code, or to its end
-use Prim.Native.Nat.{ℕ, _+_, _-_, _≤_, _<_}
-use mathlib.Core.Path.{_≡_, refl, subst}
+use Prim.Native.Nat.{ℕ, _+_, _≤_, _<_}
+use mathlib.Core.Path.{_≡_, refl}
 use mathlib.Core.Bool.{Bool, true, false}
 use mathlib.Core.List.{List, []}
 use native.Mathlib.Nat.{lt-of-lt-of-le}
@@ -17,7 +17,6 @@ use Rattle.program.specs.Sound.{FieldsGood}
 use Rattle.program.specs.declared.found.Found.the-variants.{Nowhere}
 use Rattle.program.specs.declared.instruction.Instruction.{Instruction}
 use Rattle.program.specs.declared.instruction.Instruction.the-variants.{Set, Copy, Add, Sub, Less, Read, Write, Take, Give, If, Else, While, Again, Atomic, End}
-use Rattle.program.specs.declared.instruction.Form.{Form}
 use Rattle.program.specs.declared.instruction.Form.the-variants as form
 use Rattle.program.proofs.Jumps.{jump-if, jump-else, jump-while}
 use Rattle.machine.specs.Step.{Access, none, reads, writes, takes, gives, accessOf, placeAfter, branch, reg}

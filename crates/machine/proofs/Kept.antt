@@ -22,12 +22,11 @@ use Rattle.program.specs.declared.instruction.Instruction.{Instruction}
 use Rattle.program.specs.declared.instruction.Instruction.the-variants.{Set, Copy, Add, Sub, Less, Read, Write, Take, Give, If, Else, While, Again, Atomic, End}
 use Rattle.program.proofs.Contents.{length-instructions, getD-instructions}
 use Rattle.program.proofs.Decode.{instruction-fields}
-use Rattle.machine.specs.State.{State, fresh, codeOf, threadOf}
+use Rattle.machine.specs.State.{fresh, codeOf, threadOf}
 use Rattle.machine.specs.Step.{Access, none, reads, writes, takes, gives, accessOf, waits, valueRead, variablesAfter, locksAfter, placeAfter, registersAfter, threadAfter, instructionOf, moveBy}
 use Rattle.machine.specs.Run.{runFrom}
 use Rattle.machine.specs.Kept.{stateIn, Prepared, nobody, EightRegisters, Kept}
 use Rattle.machine.specs.Reached.{shared, locksLeft}
-use Rattle.machine.specs.declared.entry.Shared.{Shared}
 use Rattle.machine.specs.declared.entry.Shared.the-variants.{Waits, Made}
 use Rattle.machine.specs.declared.thread.Thread.{Thread}
 use Rattle.machine.proofs.Outcome.{run-idle, run-waiting, run-moved}

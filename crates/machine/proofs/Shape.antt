@@ -9,7 +9,7 @@
 --     length-end     how many bytes the end state has
 --     length-end-file   the same by a file's counts
 use Prim.Native.Nat.{ℕ, zero, suc, _+_, _*_}
-use mathlib.Core.Path.{_≡_, refl, ap, _∙_}
+use mathlib.Core.Path.{_≡_, ap, _∙_}
 use mathlib.Core.List.{List, [], _∷_}
 use lib.ListN.{length, getD, set, length-set, length-append, length-map, length-replicate, List·getD-map}
 use Rattle.program.specs.Layout.{Program, CodeSection, programOf}

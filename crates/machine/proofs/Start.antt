@@ -6,7 +6,7 @@
 --     section-sound, section-located  the thread's code lies there
 --     located-next                    a thread more is located
 --     start-in                        the start's state, in arrays
-use Prim.Native.Nat.{ℕ, zero, suc, _+_, _*_, _-_, _/_, _≤_, _<_}
+use Prim.Native.Nat.{ℕ, zero, suc, _+_, _*_, _-_, _≤_, _<_}
 use mathlib.Core.Path.{_≡_, refl, sym, ap, _∙_, subst}
 use mathlib.Core.List.{List, [], _∷_, map}
 use native.Mathlib.Nat.{add-zero, sub-zero}
@@ -15,7 +15,7 @@ use native.Mathlib.Decide.{ℕ-discrete}
 use native.Mathlib.Omega.{arith}
 use lib.ListN.{length, getD, set, take, drop, replicate, length-map, List·getD-map}
 use lib.Seq.{take-suc, take-suc-set, getD-drop, drop-drop, getD-set-same, getD-set-other}
-use Rattle.program.specs.Field.{pairAt, wordAt}
+use Rattle.program.specs.Field.{wordAt}
 use Rattle.program.specs.Layout.{CodeSection, programOf, variablesAt, threadsAt, instructionsAt}
 use Rattle.program.specs.Sound.{SoundFile, SoundSection, SoundSections, countAt}
 use Rattle.program.specs.Variable.{Variable, variableAt}

@@ -8,7 +8,7 @@
 --     write-byte        the same of bytes
 --     sets-front        at the front of a buffer whose later bytes are kept
 --     write-state       variables, locks and threads one after the other are the state
-use Prim.Native.Nat.{ℕ, zero, suc, _+_, _*_, _≤_, _<_}
+use Prim.Native.Nat.{ℕ, suc, _+_, _*_, _≤_, _<_}
 use mathlib.Core.Path.{_≡_, refl, sym, ap, _∙_}
 use mathlib.Core.List.{List, [], _∷_, _++_, append-assoc, append-nil}
 use native.Mathlib.Nat.{le-of-lt, zero-add, add-zero, suc-add, add-suc, mul-zero, mul-suc}

@@ -1,5 +1,5 @@
--- The state and the program as `run_list` keeps them, which only functions inside the crate ask: in arrays of the largest size, of which
--- the first elements count; and where in the file each thread's code lies.
+-- The state and the program as `run_list` keeps them: in arrays of the largest size, of which the first elements count; and where in the
+-- file each thread's code lies. Its callers meet only `Entries` and `countsOf`, which stand in its contract.
 use Prim.Native.Nat.{ℕ, _+_, _*_, _≤_, _<_}
 use mathlib.Core.Path.{_≡_}
 use mathlib.Core.List.{List, []}

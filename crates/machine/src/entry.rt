@@ -30,6 +30,7 @@ fn take(k: u8, t: u8, locks: &mut [u8; 16]) -> Shared
     Shared::Waits
 }
 
+// The shared access that an instruction of thread t makes: READ finds a value, WRITE stores a register, TAKE and GIVE change a lock.
 pub fn access(
     i: Instruction,
     t: u8,

@@ -3,7 +3,7 @@ use program::layout::Layout;
 use program::layout::code_count;
 use program::variable::initial_at;
 ghost use mathlib.Core.Path.{_≡_};
-ghost use Prim.Native.Nat.{_+_, _*_, _≤_};
+ghost use Prim.Native.Nat.{_+_, _*_};
 ghost use lib.ListN.{length, take};
 ghost use Rattle.program.specs.Layout.{programOf};
 ghost use Rattle.program.specs.Sound.{SoundFile};

@@ -1,12 +1,12 @@
 -- `find_code` meets its contract. The invariant: the sections from `at` on are those of the threads from t on; those before are located.
 -- Assumes nothing.
 use Prim.Native.Nat.{ℕ, _+_, _-_, _≤_, _<_}
-use mathlib.Core.Path.{_≡_, refl, _∙_}
+use mathlib.Core.Path.{_≡_}
 use native.Mathlib.Omega.{arith}
 use borrow.Author.Needs.{needs}
 use lib.ListN.{length, getD, length-set}
 use Rattle.program.specs.Sound.{SoundSection, countAt}
-use Rattle.machine.specs.Kept.{Located, Prepared}
+use Rattle.machine.specs.Kept.{Located}
 use Rattle.machine.proofs.Start.{Sections, sections-start, sections-next, section-sound, section-located, located-next}
 use Rattle.machine.proofs.prepare.find_code.Statement.{statement}
 use Rattle.machine.proofs.prepare.find_code.Tie as tie
