@@ -1,4 +1,13 @@
 // A thread's part of the state, and what an entry of the list did (document 01, "The step machine").
+use program::instruction::Instruction;
+ghost use mathlib.Core.Path.{_≡_};
+ghost use Prim.Native.Nat.{_+_, _-_, _%_, _^_, _≤_, _<_};
+ghost use lib.ListN.{set};
+ghost use lib.Dec.{ltb};
+ghost use Rattle.program.specs.Choice.{choose};
+ghost use Rattle.program.specs.Sound.{FieldsGood};
+ghost use Rattle.machine.specs.Step.{reg, registersAfter, branch, placeAfter, threadAfter};
+
 pub struct Thread {
     pub place: usize,
     pub registers: [u32; 8],
@@ -8,4 +17,136 @@ pub enum Outcome {
     Moved,
     Waiting,
     Idle,
+}
+
+// The value of a register.
+pub fn register(registers: [u32; 8], a: u8) -> u32
+    requires { ⌜ a < 8 ⌝ }
+    ensures { λ x. ⌜ x ≡ reg registers a ⌝ }
+{
+    registers[a as usize]
+}
+
+// The registers with another value in one.
+fn with_register(registers: [u32; 8], a: u8, x: u32) -> [u32; 8]
+    requires { ⌜ a < 8 ⌝ }
+    ensures { λ r. ⌜ r ≡ set registers a x ⌝ }
+{
+    let mut r = registers;
+    r[a as usize] = x;
+    r
+}
+
+// The registers after an instruction, where a READ finds `value`.
+fn registers_after(i: Instruction, value: u32, r: [u32; 8]) -> [u32; 8]
+    requires { ⌜ FieldsGood 16 64 i ⌝ }
+    ensures { λ s. ⌜ s ≡ registersAfter i value r ⌝ }
+{
+    match i {
+        Instruction::Set(a, n) => with_register(r, a, n as u32),
+        Instruction::Copy(a, b) => with_register(r, a, register(r, b)),
+        Instruction::Add(a, b, c) => with_register(
+            r,
+            a,
+            std::num::wrapping_add_u32(register(r, b), register(r, c)),
+        ),
+        Instruction::Sub(a, b, c) => with_register(
+            r,
+            a,
+            difference(register(r, b), register(r, c)),
+        ),
+        Instruction::Less(a, b, c) => with_register(r, a, less(register(r, b), register(r, c))),
+        Instruction::Read(a, _) => with_register(r, a, value),
+        Instruction::Write(_, _) => r,
+        Instruction::Take(_) => r,
+        Instruction::Give(_) => r,
+        Instruction::If(_, _) => r,
+        Instruction::Else(_) => r,
+        Instruction::While(_, _) => r,
+        Instruction::Again(_) => r,
+        Instruction::Atomic(_) => r,
+        Instruction::End => r,
+    }
+}
+
+// SUB: the second taken from the first, modulo 2^32.
+fn difference(b: u32, c: u32) -> u32
+    ensures { λ r. ⌜ r ≡ (b + (2 ^ 32 - c)) % 2 ^ 32 ⌝ }
+{
+    std::num::wrapping_sub_u32(b, c)
+}
+
+// LESS: 1 if the first is below the second, else 0.
+fn less(b: u32, c: u32) -> u32
+    ensures { λ r. ⌜ r ≡ choose (ltb b c) 1 0 ⌝ }
+{
+    if b < c { 1 } else { 0 }
+}
+
+// Where IF and WHILE go: the next place if the register is not 0, else one past the named place.
+fn branched(r: [u32; 8], a: u8, n: u16, place: usize) -> usize
+    requires { ⌜ (a < 8) × (place ≤ 65535) ⌝ }
+    ensures { λ p. ⌜ p ≡ branch r a n place ⌝ }
+{
+    if register(r, a) == 0 {
+        return place + n as usize + 1;
+    }
+    place + 1
+}
+
+// Where AGAIN goes: back by its distance.
+fn back(place: usize, n: u16) -> usize
+    ensures { λ p. ⌜ p ≡ place - n ⌝ }
+{
+    let distance = n as usize;
+    if distance <= place {
+        return place - distance;
+    }
+    0
+}
+
+// The place after an instruction.
+fn place_after(i: Instruction, r: [u32; 8], place: usize) -> usize
+    requires { ⌜ FieldsGood 16 64 i × (place ≤ 65535) ⌝ }
+    ensures { λ p. ⌜ p ≡ placeAfter i r place ⌝ }
+{
+    let next = place + 1;
+    match i {
+        Instruction::Set(_, _) => next,
+        Instruction::Copy(_, _) => next,
+        Instruction::Add(_, _, _) => next,
+        Instruction::Sub(_, _, _) => next,
+        Instruction::Less(_, _, _) => next,
+        Instruction::Read(_, _) => next,
+        Instruction::Write(_, _) => next,
+        Instruction::Take(_) => next,
+        Instruction::Give(_) => next,
+        Instruction::If(a, n) => branched(r, a, n, place),
+        Instruction::Else(n) => place + n as usize,
+        Instruction::While(a, n) => branched(r, a, n, place),
+        Instruction::Again(n) => back(place, n),
+        Instruction::Atomic(_) => next,
+        Instruction::End => next,
+    }
+}
+
+// A thread after an instruction, where a READ finds `value`.
+pub fn thread_after(i: Instruction, value: u32, th: Thread) -> Thread
+    requires { ⌜ FieldsGood 16 64 i × (th .place ≤ 65535) ⌝ }
+    ensures { λ u. ⌜ u ≡ threadAfter i value th ⌝ }
+{
+    let r = th.registers;
+    let registers = registers_after(i, value, r);
+    Thread {
+        place: place_after(i, r, th.place),
+        registers: registers,
+    }
+}
+
+// The same where the thread stands: lent, and replaced by what it is after the instruction.
+pub fn move_thread(th: &mut Thread, i: Instruction, value: u32)
+    requires { ⌜ FieldsGood 16 64 i × (now th .place ≤ 65535) ⌝ }
+    ensures { λ r. ⌜ now (th .exit) ≡ threadAfter i value (now (th .entry)) ⌝ }
+{
+    *th = thread_after(i, value, *th);
 }

@@ -39,9 +39,15 @@
 >>>>>>> 59fb2a377fef40820678966336160149d511bf37
 pub mod Decode
 pub mod Contents
+pub mod StructureFlat
+pub mod StructureTurn
+pub mod Structure
+pub mod StructureScan
+pub mod Jumps
 pub mod Search
 pub mod Stack
 pub mod Scan
+<<<<<<< HEAD
 pub mod Answers
 pub mod Sections
 <<<<<<< HEAD
@@ -49,9 +55,6 @@ pub mod Steps
 =======
 >>>>>>> ac6692381d7fffd3549985b37646c41f708c48ba
 pub mod Sound
-pub mod StructureFlat
-pub mod StructureTurn
 pub mod StructureParse
-pub mod StructureScan
-pub mod Structure
-pub mod Jumps
+=======
+>>>>>>> efc072a8aeec2d4129653caf3c894753c024e1f8

@@ -9,7 +9,11 @@
 --     Code         structured code
 --     Stack        the open entries as the code holds them
 --     Sound        what a sound file is known to hold (for proofs)
+<<<<<<< HEAD
 --     WellFormed   structured code that a file can hold (for proofs)
+=======
+--     WellFormed   structured code that a file can hold; for a theorem only
+>>>>>>> efc072a8aeec2d4129653caf3c894753c024e1f8
 pub mod Refusal
 pub mod Choice
 pub mod Field

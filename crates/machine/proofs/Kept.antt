@@ -1,0 +1,289 @@
+-- The state in arrays, through one entry. Assumes nothing.
+--     kept-start                 what holds of the arrays between two entries, at the start
+--     fields, place-below        of the thread that an entry names, where it is not at its code's end
+--     entry-idle, entry-waiting, entry-moved   the entry, from what the code finds
+--     kept-waiting, kept-moved   what it leaves is kept
+use Prim.Native.Nat.{ℕ, suc, _+_, _*_, _≤_, _<_}
+use mathlib.Core.Path.{_≡_, refl, sym, ap, _∙_, subst}
+use mathlib.Core.Bool.{Bool, true, false}
+use mathlib.Core.List.{List, [], _∷_}
+use native.Mathlib.Nat.{lt-of-lt-of-le}
+use native.Mathlib.Decide.{ℕ-discrete}
+use native.Mathlib.Omega.{arith}
+use lib.ListN.{length, getD, set, take, replicate, length-set, getD-replicate}
+use lib.Seq.{getD-take, take-set-lt, getD-set-same, getD-set-other}
+use Rattle.program.specs.Choice.{choose}
+use Rattle.program.specs.Instruction.{decodeAt}
+use Rattle.program.specs.Instruction as program
+use Rattle.program.specs.Layout.{programOf}
+use Rattle.program.specs.Sound.{FieldsGood}
+use Rattle.program.specs.declared.layout.Layout.{Layout}
+use Rattle.program.specs.declared.instruction.Instruction.{Instruction}
+use Rattle.program.specs.declared.instruction.Instruction.the-variants.{Set, Copy, Add, Sub, Less, Read, Write, Take, Give, If, Else, While, Again, Atomic, End}
+use Rattle.program.proofs.Contents.{length-instructions, getD-instructions}
+use Rattle.program.proofs.Decode.{instruction-fields}
+use Rattle.machine.specs.State.{fresh, codeOf, threadOf}
+use Rattle.machine.specs.Step.{Access, none, reads, writes, takes, gives, accessOf, waits, valueRead, variablesAfter, locksAfter, placeAfter, registersAfter, threadAfter, instructionOf, moveBy}
+use Rattle.machine.specs.Run.{runFrom}
+use Rattle.machine.specs.Kept.{stateIn, Prepared, nobody, EightRegisters, Kept}
+use Rattle.machine.specs.Reached.{shared, locksLeft}
+use Rattle.machine.specs.declared.entry.Shared.the-variants.{Waits, Made}
+use Rattle.machine.specs.declared.thread.Thread.{Thread}
+use Rattle.machine.proofs.Outcome.{run-idle, run-waiting, run-moved}
+use Rattle.machine.proofs.Fields.{AccessBelow, access-below, wider, place-inside}
+
+-- a thread that has not moved is at place 0
+place-fresh : (n t : ℕ) → getD (replicate n fresh) t nobody .place ≡ 0
+unfolding fresh
+place-fresh ℕ.zero t = refl
+place-fresh (suc n) ℕ.zero = refl
+place-fresh (suc n) (suc t) = place-fresh n t
+
+registers-fresh : (n t : ℕ) → t < n → length (getD (replicate n fresh) t nobody .registers) ≡ 8
+unfolding fresh
+registers-fresh n t h = rw (getD-replicate n t fresh nobody h)
+
+-- so it is at the start
+pub kept-start : (l : Layout) (sizes vs ks : List ℕ) → length vs ≡ 64 → length ks ≡ 16 → Kept l sizes vs ks (replicate 8 fresh)
+unfolding EightRegisters
+kept-start l sizes vs ks e f = record { variables = e; locks = f; threads = refl; places = λ t h. omega (arith, place-fresh 8 t); registers = registers-fresh 8 }
+
+-- ---- the first elements count
+
+-- an element of the first n, whatever stands for none
+getD-first : {A : Type 0} (n : ℕ) (xs : List A) (i : ℕ) (d e : A) → i < n → n ≤ length xs → getD (take n xs) i d ≡ getD xs i e
+getD-first n xs i d e h k = getD-take n xs i d h ∙ getD-any xs i d e (lt-of-lt-of-le h k)
+  where
+    getD-any : {A : Type 0} (xs : List A) (i : ℕ) (d e : A) → i < length xs → getD xs i d ≡ getD xs i e
+    getD-any [] i d e h = absurd (omega arith)
+    getD-any (x ∷ xs) ℕ.zero d e h = refl
+    getD-any (x ∷ xs) (suc i) d e h = getD-any xs i d e (omega arith)
+
+module _ (k v : ℕ) where
+  waits-first : (a : Access) (ks : List ℕ) → AccessBelow k v a → waits a (take k ks) ≡ waits a ks
+  unfolding waits
+  waits-first none ks h = refl
+  waits-first (reads x) ks h = refl
+  waits-first (writes x a) ks h = refl
+  waits-first (takes x) ks h = rw (getD-take k ks x 0 h)
+  waits-first (gives x) ks h = refl
+
+  value-first : (a : Access) (vs : List ℕ) → AccessBelow k v a → valueRead a (take v vs) ≡ valueRead a vs
+  unfolding valueRead
+  value-first none vs h = refl
+  value-first (reads x) vs h = getD-take v vs x 0 h
+  value-first (writes x a) vs h = refl
+  value-first (takes x) vs h = refl
+  value-first (gives x) vs h = refl
+
+  variables-first : (a : Access) (r vs : List ℕ) → AccessBelow k v a → variablesAfter a r (take v vs) ≡ take v (variablesAfter a r vs)
+  unfolding variablesAfter
+  variables-first none r vs h = refl
+  variables-first (reads x) r vs h = refl
+  variables-first (writes x a) r vs h = sym (take-set-lt v vs x (getD r a 0) h)
+  variables-first (takes x) r vs h = refl
+  variables-first (gives x) r vs h = refl
+
+  locks-first : (a : Access) (t : ℕ) (ks : List ℕ) → AccessBelow k v a → locksAfter a t (take k ks) ≡ take k (locksAfter a t ks)
+  unfolding locksAfter
+  locks-first none t ks h = refl
+  locks-first (reads x) t ks h = refl
+  locks-first (writes x a) t ks h = refl
+  locks-first (takes x) t ks h = sym (take-set-lt k ks x (t + 1) h)
+  locks-first (gives x) t ks h = sym (take-set-lt k ks x 0 h)
+
+-- ---- what an access finds and leaves
+
+module _ (a : Access) (ks vs : List ℕ) where
+  -- it waited
+  shared-waits : shared a ks vs ≡ Waits → waits a ks ≡ true
+  unfolding shared
+  shared-waits e = from (waits a ks) e
+    where
+      from : (b : Bool) → choose b Waits (Made (valueRead a vs)) ≡ Waits → b ≡ true
+      from true e = refl
+      from false e = absurd (let z : _≡_ {A = ℕ} 0 1 = cc in let y : ⊥ = omega arith in y)
+
+  -- it was made
+  shared-made : (x : ℕ) → shared a ks vs ≡ Made x → (waits a ks ≡ false) × (valueRead a vs ≡ x)
+  unfolding shared
+  shared-made x e = from (waits a ks) e
+    where
+      from : (b : Bool) → choose b Waits (Made (valueRead a vs)) ≡ Made x → (b ≡ false) × (valueRead a vs ≡ x)
+      from true e = absurd (let z : _≡_ {A = ℕ} 0 1 = cc in let y : ⊥ = omega arith in y)
+      from false e = (refl, cc)
+
+-- only a TAKE waits, and it leaves the variables alone
+variables-waiting : (a : Access) (r ks vs : List ℕ) → waits a ks ≡ true → variablesAfter a r vs ≡ vs
+unfolding waits variablesAfter
+variables-waiting none r ks vs e = refl
+variables-waiting (reads x) r ks vs e = refl
+variables-waiting (writes x a) r ks vs e = absurd (let z : _≡_ {A = ℕ} 0 1 = cc in let y : ⊥ = omega arith in y)
+variables-waiting (takes x) r ks vs e = refl
+variables-waiting (gives x) r ks vs e = refl
+
+pub length-variables-after : (a : Access) (r vs : List ℕ) → length (variablesAfter a r vs) ≡ length vs
+unfolding variablesAfter
+length-variables-after none r vs = refl
+length-variables-after (reads x) r vs = refl
+length-variables-after (writes x a) r vs = length-set vs x (getD r a 0)
+length-variables-after (takes x) r vs = refl
+length-variables-after (gives x) r vs = refl
+
+pub length-locks-after : (a : Access) (t : ℕ) (ks : List ℕ) → length (locksAfter a t ks) ≡ length ks
+unfolding locksAfter
+length-locks-after none t ks = refl
+length-locks-after (reads x) t ks = refl
+length-locks-after (writes x a) t ks = refl
+length-locks-after (takes x) t ks = length-set ks x (t + 1)
+length-locks-after (gives x) t ks = length-set ks x 0
+
+pub length-registers-after : (i : Instruction) (x : ℕ) (r : List ℕ) → length (registersAfter i x r) ≡ length r
+unfolding registersAfter
+length-registers-after (Set a n) x r = length-set r a n
+length-registers-after (Copy a b) x r = simp length-set
+length-registers-after (Add a b c) x r = simp length-set
+length-registers-after (Sub a b c) x r = simp length-set
+length-registers-after (Less a b c) x r = simp length-set
+length-registers-after (Read a v) x r = length-set r a x
+length-registers-after (Write a v) x r = refl
+length-registers-after (Take k) x r = refl
+length-registers-after (Give k) x r = refl
+length-registers-after (If a n) x r = refl
+length-registers-after (Else n) x r = refl
+length-registers-after (While a n) x r = refl
+length-registers-after (Again n) x r = refl
+length-registers-after (Atomic n) x r = refl
+length-registers-after End x r = refl
+
+-- ---- one entry
+
+module _ (s : List ℕ) (l : Layout) (starts sizes : List ℕ) (prepared : Prepared s l starts sizes)
+    (vs ks : List ℕ) (ths : List Thread) (kept : Kept l sizes vs ks ths) (t : ℕ) (h : t < l .threads) where
+  thread-first : threadOf (stateIn l vs ks ths) t ≡ getD ths t nobody
+  unfolding threadOf
+  thread-first = getD-first (l .threads) ths t fresh nobody h (omega (arith, prepared .threads, kept .threads))
+
+  code-size : length (codeOf (programOf s l) t) ≡ getD sizes t 0
+  code-size =
+      ap length (prepared .sections t h .code)
+      ∙ length-instructions (l .locks) (l .variables) s (getD sizes t 0) (getD starts t 0)
+
+  at-end : getD ths t nobody .place ≡ getD sizes t 0 → threadOf (stateIn l vs ks ths) t .place ≡ length (codeOf (programOf s l) t)
+  at-end e = rw (thread-first, code-size) e
+
+  not-at-end : (getD ths t nobody .place ≡ getD sizes t 0 → ⊥) → threadOf (stateIn l vs ks ths) t .place ≡ length (codeOf (programOf s l) t) → ⊥
+  not-at-end n e = n (ap (λ (u : Thread). u .place) (sym thread-first) ∙ e ∙ code-size)
+
+  -- the place is that of an instruction
+  pub place-below : (getD ths t nobody .place ≡ getD sizes t 0 → ⊥) → getD ths t nobody .place < getD sizes t 0
+  place-below n = omega (arith, kept .places t h)
+
+  -- the instruction there
+  fetched : (getD ths t nobody .place ≡ getD sizes t 0 → ⊥)
+      → instructionOf (programOf s l) t (stateIn l vs ks ths)
+      ≡ program.instructionOf (decodeAt (l .locks) (l .variables) s (getD starts t 0 + 4 * getD ths t nobody .place))
+  unfolding instructionOf
+  fetched n =
+      rw (thread-first, prepared .sections t h .code)
+      (getD-instructions (l .locks) (l .variables) s (getD sizes t 0) (getD starts t 0) (getD ths t nobody .place) (place-below n))
+
+  pub entry-idle : (m w d : ℕ) (ts : List ℕ) → getD ths t nobody .place ≡ getD sizes t 0
+      → runFrom (programOf s l) (record { counts = record { moved = m; waiting = w; idle = d }; state = stateIn l vs ks ths }) (t ∷ ts)
+      ≡ runFrom (programOf s l) (record { counts = record { moved = m; waiting = w; idle = d + 1 }; state = stateIn l vs ks ths }) ts
+  entry-idle m w d ts e = run-idle (programOf s l) t _ ts (at-end e)
+
+  -- the instruction is not at its code's end, and is the one read from the file
+  module _ (i : Instruction)
+      (n : getD ths t nobody .place ≡ getD sizes t 0 → ⊥)
+      (read : i ≡ program.instructionOf (decodeAt (l .locks) (l .variables) s (getD starts t 0 + 4 * getD ths t nobody .place))) where
+    here : instructionOf (programOf s l) t (stateIn l vs ks ths) ≡ i
+    here = fetched n ∙ sym read
+
+    good : FieldsGood (l .locks) (l .variables) i
+    good = subst (FieldsGood (l .locks) (l .variables)) (sym read)
+        (instruction-fields (l .locks) (l .variables) s (getD starts t 0 + 4 * getD ths t nobody .place))
+
+    -- what the functions that take the instruction ask
+    pub fields : FieldsGood 16 64 i
+    fields = wider (l .locks) (l .variables) 16 64 (prepared .locks) (prepared .variables) i good
+
+    reached : AccessBelow (l .locks) (l .variables) (accessOf i)
+    reached = access-below (l .locks) (l .variables) i good
+
+    pub entry-waiting : (m w d : ℕ) (ts r : List ℕ) → shared (accessOf i) ks vs ≡ Waits
+        → runFrom (programOf s l) (record { counts = record { moved = m; waiting = w; idle = d }; state = stateIn l vs ks ths }) (t ∷ ts)
+        ≡ runFrom (programOf s l) (record {
+          counts = record { moved = m; waiting = w + 1; idle = d };
+          state = stateIn l (variablesAfter (accessOf i) r vs) (locksLeft (accessOf i) t ks) ths;
+        }) ts
+    unfolding locksLeft
+    entry-waiting m w d ts r e =
+        let f = shared-waits (accessOf i) ks vs e in
+        rw (variables-waiting (accessOf i) r ks vs f, f)
+        (run-waiting (programOf s l) t _ ts (not-at-end n)
+        (rw here (waits-first (l .locks) (l .variables) (accessOf i) ks reached ∙ f)))
+
+    pub kept-waiting : (r : List ℕ) → shared (accessOf i) ks vs ≡ Waits → Kept l sizes (variablesAfter (accessOf i) r vs) (locksLeft (accessOf i) t ks) ths
+    unfolding locksLeft
+    kept-waiting r e =
+        let f = shared-waits (accessOf i) ks vs e in
+        rw (variables-waiting (accessOf i) r ks vs f, f) kept
+
+    pub entry-moved : (m w d : ℕ) (ts : List ℕ) (x : ℕ) → shared (accessOf i) ks vs ≡ Made x
+        → runFrom (programOf s l) (record { counts = record { moved = m; waiting = w; idle = d }; state = stateIn l vs ks ths }) (t ∷ ts)
+        ≡ runFrom (programOf s l) (record {
+          counts = record { moved = m + 1; waiting = w; idle = d };
+          state = stateIn l (variablesAfter (accessOf i) (getD ths t nobody .registers) vs) (locksLeft (accessOf i) t ks)
+              (set ths t (threadAfter i x (getD ths t nobody)));
+        }) ts
+    unfolding locksLeft moveBy
+    entry-moved m w d ts x e =
+        let f = shared-made (accessOf i) ks vs x e in
+        run-moved (programOf s l) t _ ts (not-at-end n)
+        (rw here (waits-first (l .locks) (l .variables) (accessOf i) ks reached ∙ f .0))
+        ∙ rw (
+          here,
+          thread-first,
+          f .0,
+          value-first (l .locks) (l .variables) (accessOf i) vs reached,
+          f .1,
+          variables-first (l .locks) (l .variables) (accessOf i) (getD ths t nobody .registers) vs reached,
+          locks-first (l .locks) (l .variables) (accessOf i) t ks reached,
+          take-set-lt (l .threads) ths t (threadAfter i x (getD ths t nobody)) h,
+        )
+
+    -- it goes to a place of its code, or to the code's end
+    goes : (r : List ℕ) → placeAfter i r (getD ths t nobody .place) ≤ getD sizes t 0
+    unfolding instructionOf
+    goes r =
+        let e : getD (codeOf (programOf s l) t) (getD ths t nobody .place) End ≡ i = rw thread-first at here in
+        rw (e, code-size) at
+        (place-inside (codeOf (programOf s l) t) (prepared .sections t h .nested) r (getD ths t nobody .place) (rw code-size (place-below n)))
+
+    places-after : (x u : ℕ) → u < l .threads → getD (set ths t (threadAfter i x (getD ths t nobody))) u nobody .place ≤ getD sizes u 0
+    unfolding threadAfter
+    places-after x u k = elim (ℕ-discrete u t) [
+      | yes e ↦ rw (e, getD-set-same ths t (threadAfter i x (getD ths t nobody)) nobody (omega (arith, prepared .threads, kept .threads))) (goes (getD ths t nobody .registers))
+      | no e ↦ rw (getD-set-other ths t u (threadAfter i x (getD ths t nobody)) nobody e) (kept .places u k)
+    ]
+
+    registers-after : (x : ℕ) → EightRegisters (set ths t (threadAfter i x (getD ths t nobody)))
+    unfolding threadAfter EightRegisters
+    registers-after x u k = elim (ℕ-discrete u t) [
+      | yes e ↦ rw (e, getD-set-same ths t (threadAfter i x (getD ths t nobody)) nobody (omega (arith, prepared .threads, kept .threads)))
+          (length-registers-after i x (getD ths t nobody .registers) ∙ kept .registers t (omega (arith, prepared .threads)))
+      | no e ↦ rw (getD-set-other ths t u (threadAfter i x (getD ths t nobody)) nobody e) (kept .registers u k)
+    ]
+
+    pub kept-moved : (x : ℕ) → shared (accessOf i) ks vs ≡ Made x
+        → Kept l sizes (variablesAfter (accessOf i) (getD ths t nobody .registers) vs) (locksLeft (accessOf i) t ks)
+        (set ths t (threadAfter i x (getD ths t nobody)))
+    unfolding locksLeft
+    kept-moved x e = rw (shared-made (accessOf i) ks vs x e .0) record {
+      variables = length-variables-after (accessOf i) (getD ths t nobody .registers) vs ∙ kept .variables;
+      locks = length-locks-after (accessOf i) t ks ∙ kept .locks;
+      threads = length-set ths t (threadAfter i x (getD ths t nobody)) ∙ kept .threads;
+      places = places-after x;
+      registers = registers-after x;
+    }

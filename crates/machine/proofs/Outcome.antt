@@ -1,0 +1,56 @@
+-- One entry of a list, from the tests that decide it. Assumes nothing.
+--     run-idle      at the code's end
+--     run-waiting   at a lock that is not free
+--     run-moved     otherwise
+--     run-sum       "their sum is the list's length"
+use Prim.Native.Nat.{ℕ, _+_}
+use mathlib.Core.Path.{_≡_, _∙_}
+use mathlib.Core.Bool.{true, false}
+use mathlib.Core.List.{List, [], _∷_}
+use native.Mathlib.Omega.{arith}
+use lib.ListN.{length}
+use borrow.Author.Tests.{eq-eqb, ne-eqb}
+use Rattle.program.specs.Layout.{Program}
+use Rattle.machine.specs.State.{codeOf, threadOf}
+use Rattle.machine.specs.Step.{accessOf, waits, instructionOf, moveBy, outcome, step}
+use Rattle.machine.specs.Run.{Run, Counts, counted, runFrom, run}
+use Rattle.machine.specs.declared.thread.Outcome.{Outcome}
+use Rattle.machine.specs.declared.thread.Outcome.the-variants.{Moved, Waiting, Idle}
+
+module _ (p : Program) (t : ℕ) (r : Run) (ts : List ℕ) where
+  pub run-idle : threadOf (r .state) t .place ≡ length (codeOf p t)
+      → runFrom p r (t ∷ ts) ≡ runFrom p (record { counts = counted Idle (r .counts); state = r .state }) ts
+  unfolding runFrom step outcome
+  run-idle e = rw (eq-eqb _ _ e)
+
+  pub run-waiting : (threadOf (r .state) t .place ≡ length (codeOf p t) → ⊥)
+      → waits (accessOf (instructionOf p t (r .state))) (r .state .locks) ≡ true
+      → runFrom p r (t ∷ ts) ≡ runFrom p (record { counts = counted Waiting (r .counts); state = r .state }) ts
+  unfolding runFrom step outcome
+  run-waiting e w = rw (ne-eqb _ _ e, w)
+
+  pub run-moved : (threadOf (r .state) t .place ≡ length (codeOf p t) → ⊥)
+      → waits (accessOf (instructionOf p t (r .state))) (r .state .locks) ≡ false
+      → runFrom p r (t ∷ ts)
+      ≡ runFrom p (record { counts = counted Moved (r .counts); state = moveBy (instructionOf p t (r .state)) t (r .state) }) ts
+  unfolding runFrom step outcome
+  run-moved e w = rw (ne-eqb _ _ e, w)
+
+-- every entry is counted once
+total : Counts → ℕ
+total c = c .moved + c .waiting + c .idle
+
+counted-once : (o : Outcome) (c : Counts) → total (counted o c) ≡ total c + 1
+unfolding total
+counted-once Moved c = omega arith
+counted-once Waiting c = omega arith
+counted-once Idle c = omega arith
+
+from-sum : (p : Program) (r : Run) (ts : List ℕ) → total (runFrom p r ts .counts) ≡ total (r .counts) + length ts
+unfolding runFrom
+from-sum p r [] = omega arith
+from-sum p r (t ∷ ts) = from-sum p _ ts ∙ rw (counted-once (outcome p t (r .state)) (r .counts)) (omega arith)
+
+pub run-sum : (p : Program) (ts : List ℕ) → let c = run p ts .counts in c .moved + c .waiting + c .idle ≡ length ts
+unfolding run total
+run-sum p ts = from-sum p _ ts ∙ omega arith

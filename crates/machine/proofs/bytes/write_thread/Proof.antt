@@ -1,0 +1,43 @@
+-- `write_thread` meets its contract: the place's bytes, then those of the registers. Assumes nothing.
+use mathlib.Core.Path.{_∙_, sym}
+use native.Mathlib.Omega.{arith}
+use borrow.Author.Needs.{needs}
+use lib.Seq.{take-all}
+use Rattle.machine.specs.State.{each, pairBytes, wordBytes, threadBytes}
+use Rattle.machine.proofs.StateBytes.{sets-append}
+use Rattle.machine.proofs.bytes.write_thread.Statement.{statement}
+use Rattle.machine.proofs.bytes.write_thread.Tie as tie
+
+write-pair-requires : tie.Need-write-pair-requires
+write-pair-requires c κs = search needs
+
+add-write-words : tie.Need-add-write-words
+add-write-words c = search needs
+
+slice-aggregate-write-words : tie.Need-slice-aggregate-write-words
+slice-aggregate-write-words c = search needs
+
+write-words-requires : tie.Need-write-words-requires
+write-words-requires c κs = search needs
+
+same-length : tie.Need-same-length
+same-length c = search needs
+
+returns : tie.Need-returns
+unfolding threadBytes pairBytes
+returns c =
+    let a = c .before .before .before .before .before .before .before .before .before .before .before .args in
+    c .before .before .write-words .ensures
+    ∙ rw (c .before .before .before .before .before .before .before .before .write-pair .ensures, take-all 8 (a .th .registers) (omega arith))
+    (sym (sets-append (pairBytes (a .th .place)) (each wordBytes (a .th .registers)) (a .out .now) (a .at)))
+
+pub write-thread-spec : {M : Type 1} → statement M
+write-thread-spec =
+    tie.close
+    (tie.spec
+    write-pair-requires
+    add-write-words
+    slice-aggregate-write-words
+    write-words-requires
+    same-length
+    returns)

@@ -1,0 +1,193 @@
+-- `access` meets its contract, arm by arm. Assumes nothing.
+use mathlib.Core.Path.{_≡_, refl, subst}
+use borrow.Author.Needs.{needs}
+use Rattle.program.specs.Sound.{FieldsGood}
+use Rattle.program.specs.declared.instruction.Instruction.{Instruction}
+use Rattle.machine.specs.Reached.{shared, locksLeft}
+use Rattle.machine.specs.Step.{accessOf, waits, valueRead, variablesAfter, locksAfter}
+use Rattle.machine.proofs.entry.access.Statement.{statement}
+use Rattle.machine.proofs.entry.access.Tie as tie
+
+-- what the arm's instruction names
+names : {i j : Instruction} → i ≡ j → FieldsGood 16 64 i → FieldsGood 16 64 j
+names e h = subst (FieldsGood 16 64) e h
+
+enum-told : tie.Need-enum-told
+enum-told c = search needs
+
+enum-told-2 : tie.Need-enum-told-2
+enum-told-2 c = search needs
+
+enum-told-3 : tie.Need-enum-told-3
+enum-told-3 c = search needs
+
+enum-told-4 : tie.Need-enum-told-4
+enum-told-4 c = search needs
+
+enum-told-5 : tie.Need-enum-told-5
+enum-told-5 c = search needs
+
+enum-known-i : tie.Need-enum-known-i
+enum-known-i c = search needs
+
+cast-t12 : tie.Need-cast-t12
+cast-t12 c = search needs
+
+mul-t13 : tie.Need-mul-t13
+mul-t13 c = search needs
+
+element-copy-out-t16 : tie.Need-element-copy-out-t16
+element-copy-out-t16 c = names (c .before .i .given .1) (c .before .before .before .pre .0) .1
+
+enum-known-i-2 : tie.Need-enum-known-i-2
+enum-known-i-2 c = search needs
+
+register-requires : tie.Need-register-requires
+register-requires c κs = names (c .before .i2 .given .1) (c .before .before .before .pre .0) .0
+
+cast-variables : tie.Need-cast-variables
+cast-variables c = search needs
+
+mul-variables : tie.Need-mul-variables
+mul-variables c = search needs
+
+element-write-variables : tie.Need-element-write-variables
+element-write-variables c = names (c .before .before .i2 .given .1) (c .before .before .before .before .pre .0) .1
+
+enum-known-i-3 : tie.Need-enum-known-i-3
+enum-known-i-3 c = search needs
+
+take-requires : tie.Need-take-requires
+take-requires c κs = (names (c .before .before .i3 .given .1) (c .before .before .before .before .pre .0), c .before .before .before .before .pre .1)
+
+enum-known-i-4 : tie.Need-enum-known-i-4
+enum-known-i-4 c = search needs
+
+cast-locks : tie.Need-cast-locks
+cast-locks c = search needs
+
+element-write-locks : tie.Need-element-write-locks
+element-write-locks c = names (c .before .i4 .given .1) (c .before .before .before .pre .0)
+
+enum-told-6 : tie.Need-enum-told-6
+enum-told-6 c = search needs
+
+enum-told-7 : tie.Need-enum-told-7
+enum-told-7 c = search needs
+
+enum-told-8 : tie.Need-enum-told-8
+enum-told-8 c = search needs
+
+enum-told-9 : tie.Need-enum-told-9
+enum-told-9 c = search needs
+
+enum-told-10 : tie.Need-enum-told-10
+enum-told-10 c = search needs
+
+enum-told-11 : tie.Need-enum-told-11
+enum-told-11 c = search needs
+
+returns : tie.Need-returns
+unfolding accessOf shared locksLeft waits valueRead variablesAfter locksAfter
+returns c = rw (c .enum-told .given .1) (refl, (refl, refl))
+
+returns-2 : tie.Need-returns-2
+unfolding accessOf shared locksLeft waits valueRead variablesAfter locksAfter
+returns-2 c = rw (c .enum-told2 .given .1) (refl, (refl, refl))
+
+returns-3 : tie.Need-returns-3
+unfolding accessOf shared locksLeft waits valueRead variablesAfter locksAfter
+returns-3 c = rw (c .enum-told3 .given .1) (refl, (refl, refl))
+
+returns-4 : tie.Need-returns-4
+unfolding accessOf shared locksLeft waits valueRead variablesAfter locksAfter
+returns-4 c = rw (c .enum-told4 .given .1) (refl, (refl, refl))
+
+returns-5 : tie.Need-returns-5
+unfolding accessOf shared locksLeft waits valueRead variablesAfter locksAfter
+returns-5 c = rw (c .enum-told5 .given .1) (refl, (refl, refl))
+
+returns-6 : tie.Need-returns-6
+unfolding accessOf shared locksLeft waits valueRead variablesAfter locksAfter
+returns-6 c = rw (c .before .before .i .given .1) (refl, (refl, refl))
+
+returns-7 : tie.Need-returns-7
+unfolding accessOf shared locksLeft waits valueRead variablesAfter locksAfter
+returns-7 c = rw (c .before .before .i2 .given .1, c .register .ensures) (refl, (refl, refl))
+
+returns-8 : tie.Need-returns-8
+unfolding accessOf shared locksLeft waits valueRead variablesAfter locksAfter
+returns-8 c = rw (c .before .before .before .i3 .given .1) (c .take .ensures .0, (refl, c .take .ensures .1))
+
+returns-9 : tie.Need-returns-9
+unfolding accessOf shared locksLeft waits valueRead variablesAfter locksAfter
+returns-9 c = rw (c .before .i4 .given .1) (refl, (refl, refl))
+
+returns-10 : tie.Need-returns-10
+unfolding accessOf shared locksLeft waits valueRead variablesAfter locksAfter
+returns-10 c = rw (c .enum-told6 .given .1) (refl, (refl, refl))
+
+returns-11 : tie.Need-returns-11
+unfolding accessOf shared locksLeft waits valueRead variablesAfter locksAfter
+returns-11 c = rw (c .enum-told7 .given .1) (refl, (refl, refl))
+
+returns-12 : tie.Need-returns-12
+unfolding accessOf shared locksLeft waits valueRead variablesAfter locksAfter
+returns-12 c = rw (c .enum-told8 .given .1) (refl, (refl, refl))
+
+returns-13 : tie.Need-returns-13
+unfolding accessOf shared locksLeft waits valueRead variablesAfter locksAfter
+returns-13 c = rw (c .enum-told9 .given .1) (refl, (refl, refl))
+
+returns-14 : tie.Need-returns-14
+unfolding accessOf shared locksLeft waits valueRead variablesAfter locksAfter
+returns-14 c = rw (c .enum-told10 .given .1) (refl, (refl, refl))
+
+returns-15 : tie.Need-returns-15
+unfolding accessOf shared locksLeft waits valueRead variablesAfter locksAfter
+returns-15 c = rw (c .enum-told11 .given .1) (refl, (refl, refl))
+
+pub access-spec : {M : Type 1} → statement M
+access-spec =
+    tie.close
+    (tie.spec
+    enum-told
+    enum-told-2
+    enum-told-3
+    enum-told-4
+    enum-told-5
+    enum-known-i
+    cast-t12
+    mul-t13
+    element-copy-out-t16
+    enum-known-i-2
+    register-requires
+    cast-variables
+    mul-variables
+    element-write-variables
+    enum-known-i-3
+    take-requires
+    enum-known-i-4
+    cast-locks
+    element-write-locks
+    enum-told-6
+    enum-told-7
+    enum-told-8
+    enum-told-9
+    enum-told-10
+    enum-told-11
+    returns
+    returns-2
+    returns-3
+    returns-4
+    returns-5
+    returns-6
+    returns-7
+    returns-8
+    returns-9
+    returns-10
+    returns-11
+    returns-12
+    returns-13
+    returns-14
+    returns-15)

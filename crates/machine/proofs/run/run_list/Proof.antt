@@ -1,0 +1,75 @@
+-- `run_list` meets its contract: its parts, one after the other. Assumes nothing.
+use mathlib.Core.Path.{_≡_, sym, ap, _∙_}
+use native.Mathlib.Omega.{arith}
+use lib.Seq.{sets}
+use Rattle.program.specs.Layout.{programOf}
+use Rattle.machine.specs.State.{fresh, stateBytes}
+use Rattle.machine.specs.Run.{Run, run}
+use Rattle.machine.specs.Kept.{ranIn}
+use Rattle.machine.proofs.StateBytes.{sets-front}
+use Rattle.machine.proofs.Start.{start-in}
+use Rattle.machine.proofs.Shape.{length-end-file}
+use borrow.Author.Needs.{needs}
+use Rattle.machine.proofs.run.run_list.Statement.{statement}
+use Rattle.machine.proofs.run.run_list.Tie as tie
+
+initial-values-requires : tie.Need-initial-values-requires
+initial-values-requires c κs = search needs
+
+find-code-requires : tie.Need-find-code-requires
+find-code-requires c κs = search needs
+
+entries-requires : tie.Need-entries-requires
+entries-requires c κs = search needs
+
+slice-aggregate-write-state : tie.Need-slice-aggregate-write-state
+slice-aggregate-write-state c = search needs
+
+slice-aggregate-write-state-2 : tie.Need-slice-aggregate-write-state-2
+slice-aggregate-write-state-2 c = search needs
+
+write-state-requires : tie.Need-write-state-requires
+write-state-requires c κs =
+    let b = c .before .before .before .before .before .before .before .before .before .before .before .before .before .before .before in
+    let k = c .before .before .before .before .entries .ensures .1 in
+    (omega arith, (omega (arith, k .variables, b .pre .0 .variables), omega (arith, k .locks, b .pre .0 .locks), b .pre .0 .threads, k .registers))
+
+same-length : tie.Need-same-length
+same-length c = search needs
+
+-- what the entries left is the whole list's run
+ran : (c : tie.After-entries)
+    → let a = c .before .before .before .before .before .before .before .before .before .before .before .args in
+    run (programOf (a .s .now) (a .l)) (a .list .now)
+    ≡ ranIn (a .l) (c .entries .result) (c .entries .last .1 .1 .1 .1 .1 .0) (c .entries .last .1 .1 .1 .1 .1 .1 .0)
+unfolding run fresh
+ran c =
+    let b = c .before .before .before .before .before .before .before .before .before .before .before in
+    let a = b .args in
+    rw (← start-in (a .s .now) (a .l) (c .before .before .before .before .before .before .initial-values .last .1 .1 .0) (b .pre .0 .locks) (b .pre .0 .threads) (c .before .before .before .before .before .before .initial-values .ensures .1))
+    (c .entries .ensures .0)
+
+returns : tie.Need-returns
+returns c =
+    let b = c .before .before .before .before .before .before .before .before .before .before .before .before .before .before .before .before .before .before .before in
+    let a = b .args in
+    let p = programOf (a .s .now) (a .l) in
+    let e = ran (c .before .before .before .before .before .before .before .before) in (
+      ap (λ (r : Run). r .counts) (sym e),
+      c .before .before .before .write-state .ensures
+          ∙ ap (λ (r : Run). sets (a .out .now) 0 (stateBytes (r .state))) (sym e)
+          ∙ sets-front (stateBytes (run p (a .list .now) .state)) (a .out .now) (omega (arith, length-end-file (a .s .now) (a .l) (a .list .now), b .pre .2)),
+    )
+
+pub run-list-spec : {M : Type 1} → statement M
+run-list-spec =
+    tie.close
+    (tie.spec
+    initial-values-requires
+    find-code-requires
+    entries-requires
+    slice-aggregate-write-state
+    slice-aggregate-write-state-2
+    write-state-requires
+    same-length
+    returns)

@@ -1,0 +1,88 @@
+// The state's bytes (document 01, "The step machine": "It writes the end state").
+use crate::thread::Thread;
+use program::layout::Layout;
+ghost use mathlib.Core.Path.{_≡_};
+ghost use Prim.Native.Nat.{_+_, _*_, _≤_};
+ghost use lib.ListN.{length, take};
+ghost use lib.Seq.{sets};
+ghost use Rattle.machine.specs.Kept.{stateIn, EightRegisters};
+ghost use Rattle.machine.specs.State.{pairBytes, wordBytes, threadBytes, stateBytes, each};
+
+// A number of two bytes.
+fn write_pair(out: &mut [u8], at: usize, x: usize)
+    requires { ⌜ at + 2 ≤ length (now out) ⌝ }
+    ensures { λ r. ⌜ now (out .exit) ≡ sets (now (out .entry)) at (pairBytes x) ⌝ }
+{
+    out[at] = (x / 256 % 256) as u8;
+    out[at + 1] = (x % 256) as u8;
+}
+
+// A number of four bytes.
+fn write_word(out: &mut [u8], at: usize, x: u32)
+    requires { ⌜ at + 4 ≤ length (now out) ⌝ }
+    ensures { λ r. ⌜ now (out .exit) ≡ sets (now (out .entry)) at (wordBytes x) ⌝ }
+{
+    out[at] = (x / 16777216 % 256) as u8;
+    out[at + 1] = (x / 65536 % 256) as u8;
+    out[at + 2] = (x / 256 % 256) as u8;
+    out[at + 3] = (x % 256) as u8;
+}
+
+// The first n numbers, four bytes each: variables, and registers.
+fn write_words(out: &mut [u8], at: usize, n: usize, words: &[u32])
+    requires { ⌜ (at + 4 * n ≤ length (now out)) × (n ≤ length (now words)) ⌝ }
+    ensures { λ r. ⌜ now (out .exit) ≡ sets (now (out .entry)) at (each wordBytes (take n (now (words .entry)))) ⌝ }
+{
+    let mut i: usize = 0;
+    while i < n {
+        write_word(out, at + 4 * i, words[i]);
+        i += 1;
+    }
+}
+
+// The first n bytes: locks.
+fn write_bytes(out: &mut [u8], at: usize, n: usize, bytes: &[u8])
+    requires { ⌜ (at + n ≤ length (now out)) × (n ≤ length (now bytes)) ⌝ }
+    ensures { λ r. ⌜ now (out .exit) ≡ sets (now (out .entry)) at (take n (now (bytes .entry))) ⌝ }
+{
+    let mut i: usize = 0;
+    while i < n {
+        out[at + i] = bytes[i];
+        i += 1;
+    }
+}
+
+// A thread: its place, then its registers.
+fn write_thread(out: &mut [u8], at: usize, th: Thread)
+    requires { ⌜ (at + 34 ≤ length (now out)) × (length (th .registers) ≡ 8) ⌝ }
+    ensures { λ r. ⌜ now (out .exit) ≡ sets (now (out .entry)) at (threadBytes th) ⌝ }
+{
+    write_pair(out, at, th.place);
+    let r = th.registers;
+    write_words(out, at + 2, 8, &r);
+}
+
+// The first n threads.
+fn write_threads(out: &mut [u8], at: usize, n: usize, threads: [Thread; 8])
+    requires { ⌜ (at + 34 * n ≤ length (now out)) × (n ≤ 8) × EightRegisters threads ⌝ }
+    ensures { λ r. ⌜ now (out .exit) ≡ sets (now (out .entry)) at (each threadBytes (take n threads)) ⌝ }
+{
+    let mut i: usize = 0;
+    while i < n {
+        write_thread(out, at + 34 * i, threads[i]);
+        i += 1;
+    }
+}
+
+// The state: variables, locks, threads.
+pub fn write_state(out: &mut [u8], l: Layout, variables: &[u32], locks: &[u8], threads: [Thread; 8])
+    requires { ⌜ 4 * l .variables + l .locks + 34 * l .threads ≤ length (now out) ⌝ }
+    requires { ⌜ (l .variables ≤ length (now variables)) × (l .locks ≤ length (now locks)) × (l .threads ≤ 8) × EightRegisters threads ⌝ }
+    ensures { λ r. ⌜ now (out .exit) ≡ sets (now (out .entry)) 0 (stateBytes (stateIn l (now (variables .entry)) (now (locks .entry)) threads)) ⌝ }
+{
+    let past_variables = 4 * l.variables;
+    let past_locks = past_variables + l.locks;
+    write_words(out, 0, l.variables, variables);
+    write_bytes(out, past_variables, l.locks, locks);
+    write_threads(out, past_locks, l.threads, threads);
+}

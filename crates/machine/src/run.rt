@@ -1,0 +1,105 @@
+// A list of entries, run from the start (document 01, "The step machine").
+use crate::bytes::write_state;
+use crate::entry::Shared;
+use crate::entry::access;
+use crate::prepare::find_code;
+use crate::prepare::initial_values;
+use crate::thread::Thread;
+use crate::thread::thread_after;
+use program::instruction::instruction_at;
+use program::layout::Layout;
+ghost use mathlib.Core.Path.{_≡_};
+ghost use mathlib.Core.List.{_++_};
+ghost use Prim.Native.Nat.{_+_, _*_, _≤_};
+ghost use lib.ListN.{length, drop};
+ghost use Rattle.program.specs.Layout.{programOf};
+ghost use Rattle.program.specs.Sound.{SoundFile};
+ghost use Rattle.machine.specs.State.{stateBytes};
+ghost use Rattle.machine.specs.Run.{runFrom, run};
+ghost use Rattle.machine.specs.Kept.{Prepared, Entries, Kept, fromHere, countsOf, ranIn};
+
+// How many entries moved, waited and were idle.
+pub struct Counts {
+    pub moved: usize,
+    pub waiting: usize,
+    pub idle: usize,
+}
+
+// What a list leaves beside the variables and the locks.
+pub struct Ran {
+    pub counts: Counts,
+    pub threads: [Thread; 8],
+}
+
+// The entries of a list, one after the other.
+fn entries(
+    s: &[u8],
+    l: Layout,
+    list: &[u8],
+    starts: [usize; 8],
+    sizes: [usize; 8],
+    variables: &mut [u32; 64],
+    locks: &mut [u8; 16],
+) -> Ran
+    requires { ⌜ Prepared (now s) l starts sizes × Entries l (now list) × (length (now variables) ≡ 64) × (length (now locks) ≡ 16) ⌝ }
+    ensures { λ r. ⌜ runFrom (programOf (now (s .entry)) l) (fromHere l (now (variables .entry)) (now (locks .entry))) (now (list .entry)) ≡ ranIn l r (now (variables .exit)) (now (locks .exit)) ⌝ }
+    ensures { λ r. ⌜ Kept l sizes (now (variables .exit)) (now (locks .exit)) (r .threads) ⌝ }
+{
+    let start = Thread {
+        place: 0,
+        registers: [0; 8],
+    };
+    let mut threads = [start; 8];
+    let mut moved: usize = 0;
+    let mut waiting: usize = 0;
+    let mut idle: usize = 0;
+    let mut i: usize = 0;
+    while i < list.len() {
+        let t = list[i];
+        i += 1;
+        let at = t as usize;
+        let th = threads[at];
+        let place = th.place;
+        if place == sizes[at] {
+            idle += 1;
+        } else {
+            let ins = instruction_at(s, starts[at] + 4 * place, l.locks, l.variables);
+            let r = th.registers;
+            match access(ins, t, r, variables, locks) {
+                Shared::Waits => {
+                    waiting += 1;
+                }
+                Shared::Made(x) => {
+                    threads[at] = thread_after(ins, x, th);
+                    moved += 1;
+                }
+            }
+        }
+    }
+    Ran {
+        counts: Counts {
+            moved: moved,
+            waiting: waiting,
+            idle: idle,
+        },
+        threads: threads,
+    }
+}
+
+// A list, run from the start of a sound file's program: the counts, and the end state's bytes.
+pub fn run_list(s: &[u8], l: Layout, list: &[u8], out: &mut [u8]) -> Counts
+    requires { ⌜ SoundFile (now s) l × Entries l (now list) × (4 * l .variables + l .locks + 34 * l .threads ≤ length (now out)) ⌝ }
+    ensures counts { λ r. ⌜ countsOf r ≡ run (programOf (now (s .entry)) l) (now (list .entry)) .counts ⌝ }
+    ensures state { λ r. ⌜ now (out .exit) ≡ stateBytes (run (programOf (now (s .entry)) l) (now (list .entry)) .state) ++ drop (length (stateBytes (run (programOf (now (s .entry)) l) (now (list .entry)) .state))) (now (out .entry)) ⌝ }
+{
+    let mut variables = [0u32; 64];
+    let mut locks = [0u8; 16];
+    let mut starts = [0usize; 8];
+    let mut sizes = [0usize; 8];
+    initial_values(s, l, &mut variables);
+    find_code(s, l, &mut starts, &mut sizes);
+    let ran = entries(s, l, list, starts, sizes, &mut variables, &mut locks);
+    let threads = ran.threads;
+    write_state(out, l, &variables, &locks, threads);
+    ran.counts
+}
