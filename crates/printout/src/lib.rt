@@ -1,1 +1,3 @@
 // The printout (document 01, "Line and bench").
+pub mod text;
+pub mod line;

@@ -1,0 +1,43 @@
+use Prim.Native.Nat.{_<_, _^_}
+use native.Mathlib.Omega.{arith}
+use lib.ListN.{length-set}
+use Rattle.printout.specs.Writing.{lettered}
+use Rattle.printout.proofs.Stored.{word-first}
+use Rattle.printout.proofs.Digits.{decimal-length}
+use borrow.Author.Needs.{needs}
+use Rattle.printout.proofs.text.lettered_at.Statement.{statement}
+use Rattle.printout.proofs.text.lettered_at.Tie as tie
+use Rattle.printout.proofs.text.lettered_at.Reads as reads
+use Rattle.printout.proofs.text.lettered_at.Lts as lts
+use Rattle.printout.proofs.text.number_at.Reads as number-at-reads
+
+-- src/text.rt:90:5
+slice-write-out : tie.Need-slice-write-out
+slice-write-out c = search needs
+
+-- src/text.rt:91:20
+add-number-at : tie.Need-add-number-at
+add-number-at c = search needs
+
+-- src/text.rt:91:5
+number-at-requires : tie.Need-number-at-requires
+number-at-requires c κs =
+    let n = c .before .before .args .n in
+    let h : n < 10 ^ 3 = omega (arith, c .before .before .fits .n) in
+    simp length-set (omega (arith, decimal-length 2 n h))
+
+-- src/text.rt:85:1
+same-length : tie.Need-same-length
+same-length c = simp length-set at (c .before .before .number-at .kept .0)
+
+-- src/text.rt:85:1
+returns : tie.Need-returns
+unfolding lettered
+returns c =
+    let n = c .before .before .before .before .before .args .n in
+    let h : n < 10 ^ 3 = omega (arith, c .before .before .before .before .before .fits .n) in
+    (word-first (c .before .before .before .before .before .args .letter) (c .before .before .number-at .ensures .0), omega (arith, decimal-length 2 n h, c .before .before .number-at .ensures .1))
+
+pub lettered-at-spec : {M : Type 1} → statement M
+lettered-at-spec =
+    tie.close (tie.spec slice-write-out add-number-at number-at-requires same-length returns)
