@@ -80,9 +80,11 @@ lineOf-several (w ∷ u ∷ ws) v vs =
     ∙ ap (λ (z : List ℕ). ended w 32 ++ z) (lineOf-several (u ∷ ws) v vs)
     ∙ sym (append-assoc (ended w 32) (blanked (u ∷ ws)) (lineOf (v ∷ vs)))
 
-pub line-several : {ws : List (List ℕ)} {v : List ℕ} {vs : List (List ℕ)} {k l m : List ℕ} {at p q : ℕ}
-    → LaidWords ws at k l p → LaidLine (v ∷ vs) p l m q → LaidLine (ws ++ v ∷ vs) at k m q
-line-several {ws} {v} {vs} f g = record { laid = rw (lineOf-several ws v vs) (laid-then (f .laid) (g .laid)) }
+-- a word and several words of a line, and the line of the others
+pub line-with : {w v : List ℕ} {ws vs : List (List ℕ)} {k l m n : List ℕ} {at p q r : ℕ}
+    → LaidWord w 32 at k l p → LaidWords ws p l m q → LaidLine (v ∷ vs) q m n r → LaidLine (w ∷ (ws ++ v ∷ vs)) at k n r
+unfolding blanked
+line-with {w} {v} {ws} {vs} f g h = record { laid = rw (lineOf-several (w ∷ ws) v vs) (laid-then (laid-then (f .laid) (g .laid)) (h .laid)) }
 
 -- a word with a blank before others with theirs; the last of them
 pub words-more : {w : List ℕ} {ws : List (List ℕ)} {k l m : List ℕ} {at p q : ℕ}

@@ -1,3 +1,4 @@
 // The printout (document 01, "Line and bench").
 pub mod text;
+pub mod words;
 pub mod line;

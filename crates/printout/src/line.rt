@@ -1,33 +1,82 @@
 // Each kind of line (document 01, "Line and bench"), written from the start of a lent buffer of 48 bytes or more.
-use crate::text::{copy_at, lettered_at, number_at, raw_at};
+use crate::text::{byte_at, copy_at, letter_at, lettered_at, number_at, raw_at, short_at};
+use crate::words::{instruction_words, kind_words};
 use program::instruction::Instruction;
 use program::variable::Kind;
-use program::refusal::Refusal;
-ghost use mathlib.Core.Path.{_≡_};
-ghost use mathlib.Core.List.{[], _∷_};
+ghost use mathlib.Core.List.{[], _∷_, _++_};
 ghost use Prim.Native.Nat.{_+_, _*_, _≤_, _<_};
 ghost use lib.ListN.{length};
 ghost use Rattle.program.specs.Field.{byteAt};
-ghost use Rattle.program.specs.Refusal.{numberOf, detailOf};
-ghost use Rattle.printout.specs.Text.{decimal, lineOf};
-ghost use Rattle.printout.specs.Line.{raw, letter, kindWords, instructionWords, refusalLine, instructionLine};
-ghost use Rattle.printout.specs.Writing.{Laid, LaidWord, LaidWords, LaidLine, lettered};
+ghost use Rattle.printout.specs.Text.{ascii, decimal};
+ghost use Rattle.printout.specs.Line.{raw, letter, numbered, kindWords, instructionLine};
+ghost use Rattle.printout.specs.Writing.{Laid, LaidLine};
 
 // A field of the head: its byte, its name, its value.
 pub fn head_line(file: &[u8], at: usize, name: &[u8], out: &mut [u8]) -> usize
     requires { ⌜ (at < length (now file)) × (length (now name) ≤ 9) × (48 ≤ length (now out)) ⌝ }
     ensures { λ r. ⌜ LaidLine (raw (now (file .entry)) at 1 ∷ now (name .entry) ∷ decimal (byteAt (now (file .entry)) at) ∷ []) 0 (now (out .entry)) (now (out .exit)) r ⌝ }
 {
+    let value = file[at];
     let next = raw_at(out, 0, file, at, 1, b' ');
     let next = copy_at(out, next, name, b' ');
-    number_at(out, next, file[at] as usize, b'\n')
+    byte_at(out, next, value, b'\n')
 }
 
 // The variable section's length field and the number of variables.
 pub fn variables_line(file: &[u8], variables: usize, out: &mut [u8]) -> usize
     requires { ⌜ (5 ≤ length (now file)) × (variables < 10000) × (48 ≤ length (now out)) ⌝ }
+    ensures { λ r. ⌜ LaidLine (raw (now (file .entry)) 3 2 ∷ ascii "variables" ∷ decimal variables ∷ []) 0 (now (out .entry)) (now (out .exit)) r ⌝ }
 {
     let next = raw_at(out, 0, file, 3, 2, b' ');
     let next = copy_at(out, next, b"variables", b' ');
-    number_at(out, next, variables, b'\n')
+    short_at(out, next, variables, b'\n')
+}
+
+// Variable v, its record at an offset.
+pub fn variable_line(file: &[u8], at: usize, v: u8, kind: Kind, initial: u32, out: &mut [u8]) -> usize
+    requires { ⌜ (at + 6 ≤ length (now file)) × (48 ≤ length (now out)) ⌝ }
+    ensures { λ r. ⌜ LaidLine (raw (now (file .entry)) at 1 ∷ raw (now (file .entry)) (at + 1) 1 ∷ raw (now (file .entry)) (at + 2) 4 ∷ numbered "v" v ∷ kindWords kind ++ decimal initial ∷ []) 0 (now (out .entry)) (now (out .exit)) r ⌝ }
+{
+    let next = raw_at(out, 0, file, at, 1, b' ');
+    let next = raw_at(out, next, file, at + 1, 1, b' ');
+    let next = raw_at(out, next, file, at + 2, 4, b' ');
+    let next = lettered_at(out, next, b'v', v, b' ');
+    let next = kind_words(out, next, kind);
+    number_at(out, next, initial as usize, b'\n')
+}
+
+// Thread t: its code section's length field at an offset, and the number of its instructions.
+pub fn thread_line(file: &[u8], at: usize, t: usize, count: usize, out: &mut [u8]) -> usize
+    requires { ⌜ (at + 2 ≤ length (now file)) × (t < 10000) × (count < 10000) × (48 ≤ length (now out)) ⌝ }
+    ensures { λ r. ⌜ LaidLine (raw (now (file .entry)) at 2 ∷ ascii "thread" ∷ decimal t ∷ ascii "code" ∷ decimal count ∷ []) 0 (now (out .entry)) (now (out .exit)) r ⌝ }
+{
+    let next = raw_at(out, 0, file, at, 2, b' ');
+    let next = copy_at(out, next, b"thread", b' ');
+    let next = short_at(out, next, t, b' ');
+    let next = copy_at(out, next, b"code", b' ');
+    short_at(out, next, count, b'\n')
+}
+
+// The instruction at a place, its bytes at an offset, with its report byte.
+pub fn instruction_line(file: &[u8], at: usize, place: usize, i: Instruction, byte: u8, out: &mut [u8]) -> usize
+    requires { ⌜ (at + 4 ≤ length (now file)) × (place < 10000) × (48 ≤ length (now out)) ⌝ }
+    ensures { λ r. ⌜ Laid (instructionLine (now (file .entry)) at place i byte) 0 (now (out .entry)) (now (out .exit)) r ⌝ }
+{
+    let next = raw_at(out, 0, file, at, 1, b' ');
+    let next = raw_at(out, next, file, at + 1, 1, b' ');
+    let next = raw_at(out, next, file, at + 2, 1, b' ');
+    let next = raw_at(out, next, file, at + 3, 1, b' ');
+    let next = short_at(out, next, place, b' ');
+    let next = instruction_words(out, next, i);
+    letter_at(out, next, byte, b'\n')
+}
+
+// Thread t's whole, with its report byte.
+pub fn whole_line(t: usize, byte: u8, out: &mut [u8]) -> usize
+    requires { ⌜ (t < 10000) × (48 ≤ length (now out)) ⌝ }
+    ensures { λ r. ⌜ LaidLine (ascii "thread" ∷ decimal t ∷ letter byte ∷ []) 0 (now (out .entry)) (now (out .exit)) r ⌝ }
+{
+    let next = copy_at(out, 0, b"thread", b' ');
+    let next = short_at(out, next, t, b' ');
+    letter_at(out, next, byte, b'\n')
 }

@@ -4,7 +4,7 @@ ghost use mathlib.Core.Path.{_≡_};
 ghost use Prim.Native.Nat.{_+_, _*_, _≤_, _<_};
 ghost use lib.ListN.{length};
 ghost use Rattle.printout.specs.Text.{hexDigit, hex, decimal};
-ghost use Rattle.printout.specs.Line.{raw};
+ghost use Rattle.printout.specs.Line.{raw, letter};
 ghost use Rattle.printout.specs.Writing.{Laid, LaidWord, lettered};
 
 // A fixed text.
@@ -89,4 +89,42 @@ pub fn lettered_at(out: &mut [u8], at: usize, letter: u8, n: u8, end: u8) -> usi
 {
     out[at] = letter;
     number_at(out, at + 1, n as usize, end)
+}
+
+// A number of at most five digits.
+pub fn short_at(out: &mut [u8], at: usize, n: usize, end: u8) -> usize
+    requires { ⌜ (n < 100000) × (at + 6 ≤ length (now out)) ⌝ }
+    ensures { λ r. ⌜ LaidWord (decimal n) end at (now (out .entry)) (now (out .exit)) r ⌝ }
+    ensures { λ r. ⌜ r ≤ at + 6 ⌝ }
+{
+    number_at(out, at, n, end)
+}
+
+// A byte's value.
+pub fn byte_at(out: &mut [u8], at: usize, n: u8, end: u8) -> usize
+    requires { ⌜ at + 6 ≤ length (now out) ⌝ }
+    ensures { λ r. ⌜ LaidWord (decimal n) end at (now (out .entry)) (now (out .exit)) r ⌝ }
+    ensures { λ r. ⌜ r ≤ at + 6 ⌝ }
+{
+    short_at(out, at, n as usize, end)
+}
+
+// The letter of a report byte: "atomicity, `-` at closers".
+pub fn letter_at(out: &mut [u8], at: usize, byte: u8, end: u8) -> usize
+    requires { ⌜ at + 2 ≤ length (now out) ⌝ }
+    ensures { λ r. ⌜ LaidWord (letter byte) end at (now (out .entry)) (now (out .exit)) r ⌝ }
+    ensures { λ r. ⌜ r ≤ at + 2 ⌝ }
+{
+    match byte {
+        0 => copy_at(out, at, b"-", end),
+        1 => copy_at(out, at, b"B", end),
+        2 => copy_at(out, at, b"L", end),
+        3 => copy_at(out, at, b"R", end),
+        4 => copy_at(out, at, b"A", end),
+        5 => copy_at(out, at, b"T", end),
+        _ => {
+            out[at] = end;
+            at + 1
+        }
+    }
 }

@@ -1,0 +1,38 @@
+-- `head_line` meets its contract. Assumes nothing.
+use Rattle.printout.proofs.Stored.{line-more, line-last}
+use borrow.Author.Needs.{needs}
+use Rattle.printout.proofs.line.head_line.Statement.{statement}
+use Rattle.printout.proofs.line.head_line.Tie as tie
+
+shared-slice-read-value : tie.Need-shared-slice-read-value
+shared-slice-read-value c = search needs
+
+raw-at-requires : tie.Need-raw-at-requires
+raw-at-requires c κs = search needs
+
+copy-at-requires : tie.Need-copy-at-requires
+copy-at-requires c κs = search needs
+
+byte-at-requires : tie.Need-byte-at-requires
+byte-at-requires c κs = search needs
+
+same-length : tie.Need-same-length
+same-length c = search needs
+
+returns : tie.Need-returns
+returns c =
+    let third = c .before .before in
+    let second = third .before .before .before .before in
+    let first = second .before .before .before .before in
+    line-more (first .raw-at .ensures .0) (line-more (second .copy-at .ensures .0) (line-last (third .byte-at .ensures .0)))
+
+pub head-line-spec : {M : Type 1} → statement M
+head-line-spec =
+    tie.close
+    (tie.spec
+    shared-slice-read-value
+    raw-at-requires
+    copy-at-requires
+    byte-at-requires
+    same-length
+    returns)
