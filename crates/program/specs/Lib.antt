@@ -7,6 +7,8 @@
 --     Nesting      entries and named places
 --     Layout       the whole file, front to back, and its contents
 --     Code         structured code
+--     Stack        the open entries as the code holds them
+--     Sound        what a sound file is known to hold (for proofs)
 pub mod Refusal
 pub mod Choice
 pub mod Field
@@ -15,3 +17,5 @@ pub mod Instruction
 pub mod Nesting
 pub mod Layout
 pub mod Code
+pub mod Stack
+pub mod Sound

@@ -1,4 +1,14 @@
 // A decoded instruction (document 01, "The file": the table of op codes).
+use crate::found::Found;
+ghost use mathlib.Core.Path.{_≡_};
+ghost use mathlib.Core.Bool.{_&&_};
+ghost use Prim.Native.Nat.{_+_, _*_, _≤_};
+ghost use lib.ListN.{length};
+ghost use lib.Dec.{ltb};
+ghost use Rattle.program.specs.Choice.{choose, firstBad};
+ghost use Rattle.program.specs.Instruction.{isRegister, isZero, decodeAt, instructionOf, formOf};
+ghost use Rattle.program.specs.Instruction as Table;
+
 pub enum Instruction {
     Set(u8, u16),
     Copy(u8, u8),
@@ -32,4 +42,129 @@ pub enum Form {
     Again(u16),
     Atomic(u16),
     End,
+}
+
+fn checked(good: bool, i: Instruction) -> Decoded
+    ensures { λ r. ⌜ r ≡ choose good (Decoded.Valid i) Decoded.Invalid ⌝ }
+{
+    if good {
+        return Decoded::Valid(i);
+    }
+    Decoded::Invalid
+}
+
+// What the fields of the rows must be.
+fn is_copy(a: u8, b: u8, c: u8) -> bool
+    ensures { λ r. ⌜ r ≡ (isRegister a && isRegister b && isZero c) ⌝ }
+{
+    (a < 8) & (b < 8) & (c == 0)
+}
+
+fn are_registers(a: u8, b: u8, c: u8) -> bool
+    ensures { λ r. ⌜ r ≡ (isRegister a && isRegister b && isRegister c) ⌝ }
+{
+    (a < 8) & (b < 8) & (c < 8)
+}
+
+fn is_access(variables: usize, a: u8, b: u8, c: u8) -> bool
+    ensures { λ r. ⌜ r ≡ (isRegister a && ltb b variables && isZero c) ⌝ }
+{
+    (a < 8) & ((b as usize) < variables) & (c == 0)
+}
+
+fn is_lock(locks: usize, a: u8, b: u8, c: u8) -> bool
+    ensures { λ r. ⌜ r ≡ (ltb a locks && isZero b && isZero c) ⌝ }
+{
+    ((a as usize) < locks) & (b == 0) & (c == 0)
+}
+
+fn are_zero(a: u8, b: u8, c: u8) -> bool
+    ensures { λ r. ⌜ r ≡ (isZero a && isZero b && isZero c) ⌝ }
+{
+    (a == 0) & (b == 0) & (c == 0)
+}
+
+// The row of an op code, if its fields are right.
+pub fn decode(locks: usize, variables: usize, op: u8, a: u8, b: u8, c: u8) -> Decoded
+    ensures { λ r. ⌜ r ≡ Table.decode locks variables op a b c ⌝ }
+{
+    let n = (b as u16) * 256 + (c as u16);
+    match op {
+        0x01 => checked(a < 8, Instruction::Set(a, n)),
+        0x02 => checked(is_copy(a, b, c), Instruction::Copy(a, b)),
+        0x03 => checked(are_registers(a, b, c), Instruction::Add(a, b, c)),
+        0x04 => checked(are_registers(a, b, c), Instruction::Sub(a, b, c)),
+        0x05 => checked(are_registers(a, b, c), Instruction::Less(a, b, c)),
+        0x10 => checked(is_access(variables, a, b, c), Instruction::Read(a, b)),
+        0x11 => checked(is_access(variables, a, b, c), Instruction::Write(a, b)),
+        0x20 => checked(is_lock(locks, a, b, c), Instruction::Take(a)),
+        0x21 => checked(is_lock(locks, a, b, c), Instruction::Give(a)),
+        0x30 => checked(a < 8, Instruction::If(a, n)),
+        0x31 => checked(a == 0, Instruction::Else(n)),
+        0x32 => checked(a < 8, Instruction::While(a, n)),
+        0x33 => checked(a == 0, Instruction::Again(n)),
+        0x34 => checked(a == 0, Instruction::Atomic(n)),
+        0x35 => checked(are_zero(a, b, c), Instruction::End),
+        _ => Decoded::Invalid,
+    }
+}
+
+// The four bytes at an offset.
+pub fn decode_at(s: &[u8], at: usize, locks: usize, variables: usize) -> Decoded
+    requires { ⌜ at + 4 ≤ length (now s) ⌝ }
+    ensures { λ r. ⌜ r ≡ decodeAt locks variables (now (s .entry)) at ⌝ }
+{
+    decode(locks, variables, s[at], s[at + 1], s[at + 2], s[at + 3])
+}
+
+// The instruction that valid bytes say.
+pub fn instruction_at(s: &[u8], at: usize, locks: usize, variables: usize) -> Instruction
+    requires { ⌜ at + 4 ≤ length (now s) ⌝ }
+    ensures { λ r. ⌜ r ≡ instructionOf (decodeAt locks variables (now (s .entry)) at) ⌝ }
+{
+    let Decoded::Valid(i) = decode_at(s, at, locks, variables) else {
+        return Instruction::End;
+    };
+    i
+}
+
+// What nesting sees of an instruction.
+pub fn form_of(i: Instruction) -> Form
+    ensures { λ r. ⌜ r ≡ formOf i ⌝ }
+{
+    match i {
+        Instruction::Set(_, _) => Form::Plain,
+        Instruction::Copy(_, _) => Form::Plain,
+        Instruction::Add(_, _, _) => Form::Plain,
+        Instruction::Sub(_, _, _) => Form::Plain,
+        Instruction::Less(_, _, _) => Form::Plain,
+        Instruction::Read(_, _) => Form::Plain,
+        Instruction::Write(_, _) => Form::Plain,
+        Instruction::Take(_) => Form::Plain,
+        Instruction::Give(_) => Form::Plain,
+        Instruction::If(a, n) => Form::If(a, n),
+        Instruction::Else(n) => Form::Else(n),
+        Instruction::While(a, n) => Form::While(a, n),
+        Instruction::Again(n) => Form::Again(n),
+        Instruction::Atomic(n) => Form::Atomic(n),
+        Instruction::End => Form::End,
+    }
+}
+
+// The first of n instructions from an offset on that is not valid.
+pub fn first_bad_instruction(s: &[u8], start: usize, n: usize, locks: usize, variables: usize) -> Found
+    requires { ⌜ start + 4 * n ≤ length (now s) ⌝ }
+    ensures { λ r. ⌜ r ≡ firstBad (λ p. Table.isValid (decodeAt locks variables (now (s .entry)) p)) 4 n start ⌝ }
+{
+    let mut at = start;
+    let mut left = n;
+    while 0 < left {
+        let d = decode_at(s, at, locks, variables);
+        let Decoded::Valid(_) = d else {
+            return Found::At(at);
+        };
+        at += 4;
+        left -= 1;
+    }
+    Found::Nowhere
 }

@@ -1,4 +1,17 @@
-// The entries that openers open (document 01, "The file": nesting). Each names the place of its closer.
+// Nesting (document 01, "The file": from "A place is an instruction's index in its thread" on): a scan with a stack of open entries.
+use crate::found::Found;
+use crate::instruction::{form_of, instruction_at, Form};
+ghost use mathlib.Core.Path.{_≡_};
+ghost use mathlib.Core.Bool.{not};
+ghost use mathlib.Core.List.{List, []};
+ghost use Prim.Native.Nat.{_+_, _*_, _^_, _≤_, _<_};
+ghost use lib.ListN.{length};
+ghost use Rattle.program.specs.Nesting.{unnamed, opening, passing, atElse, atAgain, atEnd, nest, firstBroken};
+ghost use Rattle.program.specs.Nesting as Nesting;
+ghost use Rattle.program.specs.Layout.{instructionsAt, offsetFrom};
+ghost use Rattle.program.specs.Stack.{under, Right, Room, entriesOf, heldBy};
+
+// The entries that openers open. Each names the place of its closer.
 pub enum Entry {
     // Of an IF: the place of its ELSE.
     Then(usize),
@@ -8,4 +21,177 @@ pub enum Entry {
     Loop(usize, usize),
     // Of an ATOMIC: the place of its END.
     Block(usize),
+}
+
+// The innermost open entry, if any.
+pub enum Top {
+    Empty,
+    Holds(Entry),
+}
+
+// What a well nested instruction does to the open entries.
+pub enum Change {
+    Keep,
+    Push(Entry),
+    Replace(Entry),
+    Pop,
+}
+
+pub enum Turn {
+    Broken,
+    Goes(Change),
+}
+
+// The first `depth` elements are open, the last of them innermost.
+pub struct Stack {
+    pub entries: [Entry; 16],
+    pub depth: usize,
+}
+
+fn named(e: Entry) -> usize
+    ensures { λ r. ⌜ r ≡ Nesting.named e ⌝ }
+{
+    match e {
+        Entry::Then(w) => w,
+        Entry::Else(w) => w,
+        Entry::Loop(w, _) => w,
+        Entry::Block(w) => w,
+    }
+}
+
+// Whether the innermost entry names this place.
+fn is_named(p: usize, top: Top) -> bool
+    ensures { λ r. ⌜ ((below : List Entry) → unnamed p (under top below) ≡ not r) ⌝ }
+{
+    match top {
+        Top::Empty => false,
+        Top::Holds(e) => named(e) == p,
+    }
+}
+
+fn at_opener(p: usize, n: usize, e: Entry, top: Top, depth: usize) -> Turn
+    ensures { λ r. ⌜ ((below : List Entry) → length (under top below) ≡ depth → Right r top below (opening p n e (under top below))) ⌝ }
+{
+    if is_named(p, top) {
+        return Turn::Broken;
+    }
+    if n == 0 {
+        return Turn::Broken;
+    }
+    if depth < 16 {
+        return Turn::Goes(Change::Push(e));
+    }
+    Turn::Broken
+}
+
+fn at_plain(p: usize, top: Top) -> Turn
+    ensures { λ r. ⌜ ((below : List Entry) → Right r top below (passing p (under top below))) ⌝ }
+{
+    if is_named(p, top) {
+        return Turn::Broken;
+    }
+    Turn::Goes(Change::Keep)
+}
+
+fn at_else(p: usize, n: usize, top: Top) -> Turn
+    requires { ⌜ (p < 2 ^ 62) × (n < 2 ^ 62) ⌝ }
+    ensures { λ r. ⌜ ((below : List Entry) → Right r top below (atElse p n (under top below))) ⌝ }
+{
+    let Top::Holds(e) = top else {
+        return Turn::Broken;
+    };
+    match e {
+        Entry::Then(w) => {
+            if w != p {
+                return Turn::Broken;
+            }
+            if n == 0 {
+                return Turn::Broken;
+            }
+            Turn::Goes(Change::Replace(Entry::Else(p + n)))
+        }
+        Entry::Else(_) => Turn::Broken,
+        Entry::Loop(_, _) => Turn::Broken,
+        Entry::Block(_) => Turn::Broken,
+    }
+}
+
+fn at_again(p: usize, n: usize, top: Top) -> Turn
+    ensures { λ r. ⌜ ((below : List Entry) → Right r top below (atAgain p n (under top below))) ⌝ }
+{
+    let Top::Holds(e) = top else {
+        return Turn::Broken;
+    };
+    match e {
+        Entry::Then(_) => Turn::Broken,
+        Entry::Else(_) => Turn::Broken,
+        Entry::Loop(w, m) => {
+            if w != p {
+                return Turn::Broken;
+            }
+            if n == 0 {
+                return Turn::Broken;
+            }
+            if n != m {
+                return Turn::Broken;
+            }
+            Turn::Goes(Change::Pop)
+        }
+        Entry::Block(_) => Turn::Broken,
+    }
+}
+
+fn at_end(p: usize, top: Top) -> Turn
+    ensures { λ r. ⌜ ((below : List Entry) → Right r top below (atEnd p (under top below))) ⌝ }
+{
+    let Top::Holds(e) = top else {
+        return Turn::Broken;
+    };
+    match e {
+        Entry::Then(_) => Turn::Broken,
+        Entry::Else(w) => {
+            if w == p {
+                return Turn::Goes(Change::Pop);
+            }
+            Turn::Broken
+        }
+        Entry::Loop(_, _) => Turn::Broken,
+        Entry::Block(w) => {
+            if w == p {
+                return Turn::Goes(Change::Pop);
+            }
+            Turn::Broken
+        }
+    }
+}
+
+fn wide(x: u16) -> usize
+    ensures { λ r. ⌜ (r ≡ x) × (r < 65536) ⌝ }
+{
+    x as usize
+}
+
+// What an instruction of this form does at place p.
+fn turn_at(p: usize, f: Form, top: Top, depth: usize) -> Turn
+    requires { ⌜ p < 2 ^ 62 ⌝ }
+    ensures { λ r. ⌜ ((below : List Entry) → length (under top below) ≡ depth → Right r top below (nest p f (under top below))) ⌝ }
+{
+    match f {
+        Form::Plain => at_plain(p, top),
+        Form::If(_, d) => {
+            let n = wide(d);
+            at_opener(p, n, Entry::Then(p + n), top, depth)
+        }
+        Form::Else(d) => at_else(p, wide(d), top),
+        Form::While(_, d) => {
+            let n = wide(d);
+            at_opener(p, n, Entry::Loop(p + n, n), top, depth)
+        }
+        Form::Again(d) => at_again(p, wide(d), top),
+        Form::Atomic(d) => {
+            let n = wide(d);
+            at_opener(p, n, Entry::Block(p + n), top, depth)
+        }
+        Form::End => at_end(p, top),
+    }
 }

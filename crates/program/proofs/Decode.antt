@@ -1,0 +1,90 @@
+-- What a decoded instruction's fields satisfy. Assumes nothing.
+--     decode-fields        of valid bytes
+--     instruction-fields   of the instruction at any offset, valid or not
+use Prim.Native.Nat.{ℕ, _+_, _*_, _<_}
+use mathlib.Core.Path.{_≡_, refl, subst}
+use mathlib.Core.Bool.{Bool, true, false, _&&_, and-eq-true-iff}
+use mathlib.Core.List.{List}
+use lib.Dec.{ltb, eqb}
+use borrow.Author.Tests.{ltb-true}
+use Rattle.program.specs.Choice.{choose}
+use Rattle.program.specs.Field.{byteAt}
+use Rattle.program.specs.Instruction.{decode, decodeAt, instructionOf, isRegister, isZero}
+use Rattle.program.specs.Sound.{FieldsGood}
+use Rattle.program.specs.declared.instruction.Instruction.{Instruction}
+use Rattle.program.specs.declared.instruction.Instruction.the-variants.{Set, Copy, Add, Sub, Less, Read, Write, Take, Give, If, Else, While, Again, Atomic, End}
+use Rattle.program.specs.declared.instruction.Decoded.{Decoded}
+use Rattle.program.specs.declared.instruction.Decoded.the-variants.{Valid, Invalid}
+
+-- three tests that hold together hold
+all-true : (x y z : Bool) → (x && y && z) ≡ true → (x ≡ true) × (y ≡ true) × (z ≡ true)
+all-true x y z e =
+    let h = and-eq-true-iff (x && y) z .0 e in
+    let g = and-eq-true-iff x y .0 (h .0) in
+    (g .0, g .1, h .1)
+
+three-registers : (a b c : ℕ) → (isRegister a && isRegister b && isRegister c) ≡ true → (a < 8) × (b < 8) × (c < 8)
+three-registers a b c e =
+    let h = all-true (isRegister a) (isRegister b) (isRegister c) e in
+    (ltb-true a 8 (h .0), ltb-true b 8 (h .1), ltb-true c 8 (h .2))
+
+-- a register, and b below a bound: COPY (8), READ and WRITE (the number of variables)
+two-below : (n a b c : ℕ) → (isRegister a && ltb b n && isZero c) ≡ true → (a < 8) × (b < n)
+two-below n a b c e =
+    let h = all-true (isRegister a) (ltb b n) (isZero c) e in
+    (ltb-true a 8 (h .0), ltb-true b n (h .1))
+
+-- a lock
+one-below : (n a b c : ℕ) → (ltb a n && isZero b && isZero c) ≡ true → a < n
+one-below n a b c e = ltb-true a n (all-true (ltb a n) (isZero b) (isZero c) e .0)
+
+-- what is decoded, if valid
+abbrev IfValid : (Instruction → Type 0) → Decoded → Type 0
+IfValid P (Valid i) = P i
+IfValid P Invalid = Unit
+
+-- one row of the table above the rest of it
+row-good : (P : Instruction → Type 0) (here fields : Bool) (i : Instruction) (rest : Decoded)
+    → (fields ≡ true → P i) → IfValid P rest → IfValid P (choose here (choose fields (Valid i) Invalid) rest)
+row-good P true true i rest good h = good refl
+row-good P true false i rest good h = tt
+row-good P false fields i rest good h = h
+
+-- the table row by row
+decoded-good : (locks variables op a b c : ℕ) → IfValid (FieldsGood locks variables) (decode locks variables op a b c)
+unfolding decode
+decoded-good locks variables op a b c =
+    let P = FieldsGood locks variables in
+    let n = b * 256 + c in
+    row-good P (eqb op 0x01) (isRegister a) (Set a n) _ (ltb-true a 8)
+    (row-good P (eqb op 0x02) (isRegister a && isRegister b && isZero c) (Copy a b) _ (two-below 8 a b c)
+    (row-good P (eqb op 0x03) (isRegister a && isRegister b && isRegister c) (Add a b c) _ (three-registers a b c)
+    (row-good P (eqb op 0x04) (isRegister a && isRegister b && isRegister c) (Sub a b c) _ (three-registers a b c)
+    (row-good P (eqb op 0x05) (isRegister a && isRegister b && isRegister c) (Less a b c) _ (three-registers a b c)
+    (row-good P (eqb op 0x10) (isRegister a && ltb b variables && isZero c) (Read a b) _ (two-below variables a b c)
+    (row-good P (eqb op 0x11) (isRegister a && ltb b variables && isZero c) (Write a b) _ (two-below variables a b c)
+    (row-good P (eqb op 0x20) (ltb a locks && isZero b && isZero c) (Take a) _ (one-below locks a b c)
+    (row-good P (eqb op 0x21) (ltb a locks && isZero b && isZero c) (Give a) _ (one-below locks a b c)
+    (row-good P (eqb op 0x30) (isRegister a) (If a n) _ (ltb-true a 8)
+    (row-good P (eqb op 0x31) (isZero a) (Else n) _ (λ _. tt)
+    (row-good P (eqb op 0x32) (isRegister a) (While a n) _ (ltb-true a 8)
+    (row-good P (eqb op 0x33) (isZero a) (Again n) _ (λ _. tt)
+    (row-good P (eqb op 0x34) (isZero a) (Atomic n) _ (λ _. tt)
+    (row-good P (eqb op 0x35) (isZero a && isZero b && isZero c) End _ (λ _. tt)
+    tt))))))))))))))
+
+-- valid bytes: registers below 8, locks and variables below their counts
+pub decode-fields : (locks variables op a b c : ℕ) (i : Instruction) → decode locks variables op a b c ≡ Valid i
+    → FieldsGood locks variables i
+decode-fields locks variables op a b c i e = subst (IfValid (FieldsGood locks variables)) e (decoded-good locks variables op a b c)
+
+instruction-of : (locks variables : ℕ) (d : Decoded) → IfValid (FieldsGood locks variables) d → FieldsGood locks variables (instructionOf d)
+instruction-of locks variables (Valid i) h = h
+instruction-of locks variables Invalid h = tt
+
+-- the same at any offset: invalid bytes give END, which has no fields
+pub instruction-fields : (locks variables : ℕ) (s : List ℕ) (at : ℕ) → FieldsGood locks variables (instructionOf (decodeAt locks variables s at))
+unfolding decodeAt
+instruction-fields locks variables s at =
+    instruction-of locks variables (decodeAt locks variables s at)
+    (decoded-good locks variables (byteAt s at) (byteAt s (at + 1)) (byteAt s (at + 2)) (byteAt s (at + 3)))

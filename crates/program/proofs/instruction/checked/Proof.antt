@@ -1,0 +1,13 @@
+-- `checked` meets its contract. Assumes nothing.
+use borrow.Author.Needs.{needs}
+use Rattle.program.proofs.instruction.checked.Statement.{statement}
+use Rattle.program.proofs.instruction.checked.Tie as tie
+
+returns : tie.Need-returns
+returns c = rw (c .if1 .taken)
+
+returns-2 : tie.Need-returns-2
+returns-2 c = search needs
+
+pub checked-spec : {M : Type 1} → statement M
+checked-spec = tie.close (tie.spec returns returns-2)

@@ -1,0 +1,133 @@
+-- `turn_at` meets its contract. Assumes nothing.
+use Rattle.program.specs.Nesting.{nest}
+use borrow.Author.Needs.{needs}
+use Rattle.program.proofs.nesting.turn_at.Statement.{statement}
+use Rattle.program.proofs.nesting.turn_at.Tie as tie
+
+enum-told : tie.Need-enum-told
+enum-told c = search needs
+
+at-plain-requires : tie.Need-at-plain-requires
+at-plain-requires c κs = search needs
+
+enum-known-f : tie.Need-enum-known-f
+enum-known-f c = search needs
+
+wide-requires : tie.Need-wide-requires
+wide-requires c κs = search needs
+
+add-t14 : tie.Need-add-t14
+add-t14 c = search needs
+
+at-opener-requires : tie.Need-at-opener-requires
+at-opener-requires c κs = search needs
+
+enum-known-f-2 : tie.Need-enum-known-f-2
+enum-known-f-2 c = search needs
+
+wide-requires-2 : tie.Need-wide-requires-2
+wide-requires-2 c κs = search needs
+
+at-else-requires : tie.Need-at-else-requires
+at-else-requires c κs = search needs
+
+enum-known-f-3 : tie.Need-enum-known-f-3
+enum-known-f-3 c = search needs
+
+wide-requires-3 : tie.Need-wide-requires-3
+wide-requires-3 c κs = search needs
+
+add-t17 : tie.Need-add-t17
+add-t17 c = search needs
+
+at-opener-requires-2 : tie.Need-at-opener-requires-2
+at-opener-requires-2 c κs = search needs
+
+enum-known-f-4 : tie.Need-enum-known-f-4
+enum-known-f-4 c = search needs
+
+wide-requires-4 : tie.Need-wide-requires-4
+wide-requires-4 c κs = search needs
+
+at-again-requires : tie.Need-at-again-requires
+at-again-requires c κs = search needs
+
+enum-known-f-5 : tie.Need-enum-known-f-5
+enum-known-f-5 c = search needs
+
+wide-requires-5 : tie.Need-wide-requires-5
+wide-requires-5 c κs = search needs
+
+add-t20 : tie.Need-add-t20
+add-t20 c = search needs
+
+at-opener-requires-3 : tie.Need-at-opener-requires-3
+at-opener-requires-3 c κs = search needs
+
+enum-told-2 : tie.Need-enum-told-2
+enum-told-2 c = search needs
+
+at-end-requires : tie.Need-at-end-requires
+at-end-requires c κs = search needs
+
+returns : tie.Need-returns
+unfolding nest
+returns c = λ below d. rw (c .before .enum-told .given .1) (c .at-plain .ensures below)
+
+returns-2 : tie.Need-returns-2
+unfolding nest
+returns-2 c = λ below d. rw (c .before .before .before .f .given .1, ← c .before .wide .ensures .0) (c .at-opener .ensures below d)
+
+returns-3 : tie.Need-returns-3
+unfolding nest
+returns-3 c = λ below d. rw (c .before .before .before .f2 .given .1, ← c .before .wide2 .ensures .0) (c .at-else .ensures below)
+
+returns-4 : tie.Need-returns-4
+unfolding nest
+returns-4 c = λ below d. rw (c .before .before .before .f3 .given .1, ← c .before .wide3 .ensures .0) (c .at-opener2 .ensures below d)
+
+returns-5 : tie.Need-returns-5
+unfolding nest
+returns-5 c = λ below d. rw (c .before .before .before .f4 .given .1, ← c .before .wide4 .ensures .0) (c .at-again .ensures below)
+
+returns-6 : tie.Need-returns-6
+unfolding nest
+returns-6 c = λ below d. rw (c .before .before .before .f5 .given .1, ← c .before .wide5 .ensures .0) (c .at-opener3 .ensures below d)
+
+returns-7 : tie.Need-returns-7
+unfolding nest
+returns-7 c = λ below d. rw (c .before .enum-told2 .given .1) (c .at-end .ensures below)
+
+pub turn-at-spec : {M : Type 1} → statement M
+turn-at-spec =
+    tie.close
+    (tie.spec
+    enum-told
+    at-plain-requires
+    enum-known-f
+    wide-requires
+    add-t14
+    at-opener-requires
+    enum-known-f-2
+    wide-requires-2
+    at-else-requires
+    enum-known-f-3
+    wide-requires-3
+    add-t17
+    at-opener-requires-2
+    enum-known-f-4
+    wide-requires-4
+    at-again-requires
+    enum-known-f-5
+    wide-requires-5
+    add-t20
+    at-opener-requires-3
+    enum-told-2
+    at-end-requires
+    returns
+    returns-2
+    returns-3
+    returns-4
+    returns-5
+    returns-6
+    returns-7)

@@ -1,0 +1,56 @@
+-- The open entries as the code holds them, in an array with a depth, and what one instruction does to them: how the contracts of
+-- src/nesting.rt's inner functions cite the definitions of Nesting, which are over lists. Nothing above that module cites it.
+use Prim.Native.Nat.{ℕ, zero, suc, _<_}
+use mathlib.Core.Path.{_≡_}
+use mathlib.Core.List.{List, [], _∷_}
+use lib.ListN.{getD, length}
+use Rattle.program.specs.Nesting.{Nested, broken, opened}
+use Rattle.program.specs.declared.nesting.Entry.{Entry}
+use Rattle.program.specs.declared.nesting.Entry.the-variants.{Block}
+use Rattle.program.specs.declared.nesting.Top.{Top}
+use Rattle.program.specs.declared.nesting.Top.the-variants.{Empty, Holds}
+use Rattle.program.specs.declared.nesting.Change.{Change}
+use Rattle.program.specs.declared.nesting.Change.the-variants.{Keep, Push, Replace, Pop}
+use Rattle.program.specs.declared.nesting.Turn.{Turn}
+use Rattle.program.specs.declared.nesting.Turn.the-variants.{Broken, Goes}
+use Rattle.program.specs.declared.nesting.Stack.{Stack}
+
+-- the first entries of an array, the last of them innermost and so first
+unfoldable pub entriesOf : ℕ → List Entry → List Entry
+entriesOf zero xs = []
+entriesOf (suc d) xs = getD xs d (Block 0) ∷ entriesOf d xs
+
+abbrev pub heldBy : Stack → List Entry
+heldBy k = entriesOf (k .depth) (k .entries)
+
+-- the innermost entry with those below it
+abbrev pub under : Top → List Entry → List Entry
+under Empty below = []
+under (Holds e) below = e ∷ below
+
+-- the entries after a change
+abbrev pub changed : Change → Top → List Entry → List Entry
+changed Keep top below = under top below
+changed (Push e) top below = e ∷ under top below
+changed (Replace e) top below = e ∷ below
+changed Pop top below = below
+
+abbrev pub turned : Turn → Top → List Entry → Nested
+turned Broken top below = broken
+turned (Goes ch) top below = opened (changed ch top below)
+
+-- a change has room: an entry is pushed only below a depth of 16, and replaced or popped only where there is one
+abbrev pub Room : Change → List Entry → Type 0
+Room Keep es = Unit
+Room (Push e) es = length es < 16
+Room (Replace e) es = 0 < length es
+Room Pop es = 0 < length es
+
+abbrev pub RoomOf : Turn → List Entry → Type 0
+RoomOf Broken es = Unit
+RoomOf (Goes ch) es = Room ch es
+
+-- the turn does what is wanted, and has room
+pub record Right (t : Turn) (top : Top) (below : List Entry) (wanted : Nested) : Type 0 where
+  pub does : turned t top below ≡ wanted
+  pub room : RoomOf t (under top below)
