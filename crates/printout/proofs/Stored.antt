@@ -10,7 +10,7 @@ use native.Mathlib.Omega.{arith}
 use lib.ListN.{length, getD, set, take, drop, length-append}
 use lib.Seq.{sets, sets-eq, take-suc}
 use Rattle.printout.specs.Text.{ascii, spaced, lineOf}
-use Rattle.printout.specs.Writing.{Laid, LaidWord, LaidWords, LaidLine, ended, blanked}
+use Rattle.printout.specs.Writing.{Laid, LaidWord, LaidWords, LaidLine, Printed, ended, blanked}
 
 -- one run of stores, then another right after it
 pub sets-append : (xs l ys : List ℕ) (at : ℕ) → sets l at (xs ++ ys) ≡ sets (sets l at xs) (at + length xs) ys
@@ -96,8 +96,12 @@ pub words-last : {w k l : List ℕ} {at p : ℕ} → LaidWord w 32 at k l p → 
 unfolding blanked
 words-last {w} f = record { laid = rw (append-nil (ended w 32)) (f .laid) }
 
--- what is laid from the buffer's start on: the bytes, then the buffer's rest
-pub laid-over : {x k l : List ℕ} {q : ℕ} → length x ≤ length k → Laid x 0 k l q → (q ≡ length x) × (l ≡ x ++ drop (length x) k)
-laid-over {x} {k} {l} {q} h f =
-    let e : 0 + length x ≡ length x = omega arith in
-    (f .ends ∙ e, f .stored ∙ sets-eq x k 0 (omega arith) ∙ ap (λ (n : ℕ). x ++ drop n k) e)
+-- a line that was laid from the buffer's start on: its bytes, then the buffer's rest
+pub printed : {ws : List (List ℕ)} {k l : List ℕ} {q : ℕ} → q ≤ 48 → 48 ≤ length k → LaidLine ws 0 k l q → Printed (lineOf ws) k l q
+printed {ws} {k} {l} {q} h b f =
+    let e : 0 + length (lineOf ws) ≡ length (lineOf ws) = omega arith in
+    record
+    { counted = f .laid .ends ∙ e
+    ; bytes = f .laid .stored ∙ sets-eq (lineOf ws) k 0 (omega (arith, f .laid .ends)) ∙ ap (λ (n : ℕ). lineOf ws ++ drop n k) e
+    ; short = h
+    }

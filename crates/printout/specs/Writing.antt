@@ -1,9 +1,9 @@
 -- How this crate's functions say to each other what they have written. Internal: no public call's contract names it, and the lines
 -- themselves are those of `Line`.
-use Prim.Native.Nat.{ℕ, _+_}
+use Prim.Native.Nat.{ℕ, _+_, _≤_}
 use mathlib.Core.Path.{_≡_}
 use mathlib.Core.List.{List, [], _∷_, _++_}
-use lib.ListN.{length}
+use lib.ListN.{length, drop}
 use lib.Seq.{sets}
 use Rattle.printout.specs.Text.{decimal, lineOf}
 
@@ -34,3 +34,9 @@ pub record LaidWords (words : List (List ℕ)) (at : ℕ) (buffer after : List �
 
 pub record LaidLine (words : List (List ℕ)) (at : ℕ) (buffer after : List ℕ) (next : ℕ) : Type 0 where
   pub laid : Laid (lineOf words) at buffer after next
+
+-- a whole line, from the buffer's start on: what each kind of line promises. "Later bytes are kept"
+pub record Printed (line buffer after : List ℕ) (size : ℕ) : Type 0 where
+  pub counted : size ≡ length line
+  pub bytes : after ≡ line ++ drop (length line) buffer
+  pub short : size ≤ 48

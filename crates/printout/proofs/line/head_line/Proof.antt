@@ -1,5 +1,6 @@
 -- `head_line` meets its contract. Assumes nothing.
-use Rattle.printout.proofs.Stored.{line-more, line-last}
+use native.Mathlib.Omega.{arith}
+use Rattle.printout.proofs.Stored.{line-more, line-last, printed}
 use borrow.Author.Needs.{needs}
 use Rattle.printout.proofs.line.head_line.Statement.{statement}
 use Rattle.printout.proofs.line.head_line.Tie as tie
@@ -24,7 +25,8 @@ returns c =
     let third = c .before .before in
     let second = third .before .before .before .before in
     let first = second .before .before .before .before in
-    line-more (first .raw-at .ensures .0) (line-more (second .copy-at .ensures .0) (line-last (third .byte-at .ensures .0)))
+    let start = first .before .before .before .before .before .before in
+    printed (omega (arith, first .raw-at .ensures .1, second .copy-at .ensures .1, third .byte-at .ensures .1, start .pre .1)) (start .pre .2) (line-more (first .raw-at .ensures .0) (line-more (second .copy-at .ensures .0) (line-last (third .byte-at .ensures .0))))
 
 pub head-line-spec : {M : Type 1} → statement M
 head-line-spec =

@@ -2,7 +2,7 @@
 use mathlib.Core.Path.{_∙_}
 use native.Mathlib.Omega.{arith}
 use Rattle.printout.specs.Line.{instructionLine}
-use Rattle.printout.proofs.Stored.{line-more, line-with, line-last}
+use Rattle.printout.proofs.Stored.{line-more, line-with, line-last, printed}
 use borrow.Author.Needs.{needs}
 use Rattle.printout.proofs.line.instruction_line.Statement.{statement}
 use Rattle.printout.proofs.line.instruction_line.Tie as tie
@@ -62,13 +62,13 @@ returns c =
     let third = fourth .before .before .before .before in
     let second = third .before .before .before .before in
     let first = second .before .before .before .before in
-    line-more (first .raw-at .ensures .0)
+    let start = first .before .before .before .before in
+    printed (omega (arith, first .raw-at .ensures .1, second .raw-at2 .ensures .1, third .raw-at3 .ensures .1, fourth .raw-at4 .ensures .1, fifth .short-at .ensures .1, sixth .instruction-words .ensures .1, seventh .letter-at .ensures .1)) (start .pre .2) (line-more (first .raw-at .ensures .0)
     (line-more (second .raw-at2 .ensures .0)
     (line-more (third .raw-at3 .ensures .0)
     (line-more (fourth .raw-at4 .ensures .0)
     (line-with (fifth .short-at .ensures .0) (sixth .instruction-words .ensures .0)
-    (line-last (seventh .letter-at .ensures .0))))))
-    .laid
+    (line-last (seventh .letter-at .ensures .0)))))))
 
 pub instruction-line-spec : {M : Type 1} → statement M
 instruction-line-spec =

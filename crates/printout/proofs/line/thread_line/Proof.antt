@@ -1,6 +1,7 @@
 -- `thread_line` meets its contract. Assumes nothing.
+use native.Mathlib.Omega.{arith}
 use Rattle.printout.specs.Text.{ascii}
-use Rattle.printout.proofs.Stored.{line-more, line-last}
+use Rattle.printout.proofs.Stored.{line-more, line-last, printed}
 use borrow.Author.Needs.{needs}
 use Rattle.printout.proofs.line.thread_line.Statement.{statement}
 use Rattle.printout.proofs.line.thread_line.Tie as tie
@@ -37,11 +38,12 @@ returns c =
     let third = fourth .before .before .before .before .before in
     let second = third .before .before .before .before in
     let first = second .before .before .before .before .before in
-    line-more (first .raw-at .ensures .0)
+    let start = first .before .before .before .before in
+    printed (omega (arith, first .raw-at .ensures .1, second .copy-at .ensures .1, third .short-at .ensures .1, fourth .copy-at2 .ensures .1, fifth .short-at2 .ensures .1)) (start .pre .3) (line-more (first .raw-at .ensures .0)
     (line-more (second .copy-at .ensures .0)
     (line-more (third .short-at .ensures .0)
     (line-more (fourth .copy-at2 .ensures .0)
-    (line-last (fifth .short-at2 .ensures .0)))))
+    (line-last (fifth .short-at2 .ensures .0))))))
 
 pub thread-line-spec : {M : Type 1} → statement M
 thread-line-spec =

@@ -5,7 +5,7 @@ use Rattle.printout.proofs.Digits.{decimal-length}
 use Rattle.printout.specs.Text.{ascii}
 use Rattle.printout.specs.Line.{numbered}
 use Rattle.printout.specs.Writing.{lettered}
-use Rattle.printout.proofs.Stored.{line-more, line-with, line-last}
+use Rattle.printout.proofs.Stored.{line-more, line-with, line-last, printed}
 use borrow.Author.Needs.{needs}
 use Rattle.printout.proofs.line.variable_line.Statement.{statement}
 use Rattle.printout.proofs.line.variable_line.Tie as tie
@@ -51,11 +51,13 @@ returns c =
     let third = fourth .before .before .before .before in
     let second = third .before .before .before .before in
     let first = second .before .before .before .before in
-    line-more (first .raw-at .ensures .0)
+    let start = first .before .before .before .before in
+    let h : start .args .initial < 10 ^ 10 = omega (arith, start .fits .initial) in
+    printed (omega (arith, first .raw-at .ensures .1, second .raw-at2 .ensures .1, third .raw-at3 .ensures .1, fourth .lettered-at .ensures .1, fifth .kind-words .ensures .1, sixth .number-at .ensures .1, decimal-length 9 (start .args .initial) h)) (start .pre .1) (line-more (first .raw-at .ensures .0)
     (line-more (second .raw-at2 .ensures .0)
     (line-more (third .raw-at3 .ensures .0)
     (line-with (fourth .lettered-at .ensures .0) (fifth .kind-words .ensures .0)
-    (line-last (sixth .number-at .ensures .0)))))
+    (line-last (sixth .number-at .ensures .0))))))
 
 pub variable-line-spec : {M : Type 1} → statement M
 variable-line-spec =

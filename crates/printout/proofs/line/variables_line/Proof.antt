@@ -1,6 +1,7 @@
 -- `variables_line` meets its contract. Assumes nothing.
+use native.Mathlib.Omega.{arith}
 use Rattle.printout.specs.Text.{ascii}
-use Rattle.printout.proofs.Stored.{line-more, line-last}
+use Rattle.printout.proofs.Stored.{line-more, line-last, printed}
 use borrow.Author.Needs.{needs}
 use Rattle.printout.proofs.line.variables_line.Statement.{statement}
 use Rattle.printout.proofs.line.variables_line.Tie as tie
@@ -26,7 +27,8 @@ returns c =
     let third = c .before .before in
     let second = third .before .before .before .before in
     let first = second .before .before .before .before .before in
-    line-more (first .raw-at .ensures .0) (line-more (second .copy-at .ensures .0) (line-last (third .short-at .ensures .0)))
+    let start = first .before .before .before .before in
+    printed (omega (arith, first .raw-at .ensures .1, second .copy-at .ensures .1, third .short-at .ensures .1)) (start .pre .2) (line-more (first .raw-at .ensures .0) (line-more (second .copy-at .ensures .0) (line-last (third .short-at .ensures .0))))
 
 pub variables-line-spec : {M : Type 1} → statement M
 variables-line-spec =

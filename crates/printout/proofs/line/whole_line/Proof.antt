@@ -1,6 +1,7 @@
 -- `whole_line` meets its contract. Assumes nothing.
+use native.Mathlib.Omega.{arith}
 use Rattle.printout.specs.Text.{ascii}
-use Rattle.printout.proofs.Stored.{line-more, line-last}
+use Rattle.printout.proofs.Stored.{line-more, line-last, printed}
 use borrow.Author.Needs.{needs}
 use Rattle.printout.proofs.line.whole_line.Statement.{statement}
 use Rattle.printout.proofs.line.whole_line.Tie as tie
@@ -26,7 +27,8 @@ returns c =
     let third = c .before .before in
     let second = third .before .before .before .before in
     let first = second .before .before .before .before in
-    line-more (first .copy-at .ensures .0) (line-more (second .short-at .ensures .0) (line-last (third .letter-at .ensures .0)))
+    let start = first .before .before .before .before in
+    printed (omega (arith, first .copy-at .ensures .1, second .short-at .ensures .1, third .letter-at .ensures .1)) (start .pre .1) (line-more (first .copy-at .ensures .0) (line-more (second .short-at .ensures .0) (line-last (third .letter-at .ensures .0))))
 
 pub whole-line-spec : {M : Type 1} → statement M
 whole-line-spec =
