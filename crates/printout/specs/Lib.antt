@@ -2,6 +2,8 @@
 --     Text     hexadecimal, decimal and fixed texts
 --     Line     every line
 --     Writing  internal: what a writing function leaves in the lent buffer
+--     Item     internal: the printout by its parts, as the code walks them
 pub mod Text
 pub mod Line
 pub mod Writing
+pub mod Item

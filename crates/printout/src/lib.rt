@@ -3,3 +3,4 @@ pub mod text;
 pub mod words;
 pub mod refusal;
 pub mod line;
+pub mod print;

@@ -88,8 +88,10 @@ pub fn refusal_line(r: Refusal, out: &mut [u8]) -> usize
     requires { ⌜ 48 ≤ length (now out) ⌝ }
     ensures { λ size. ⌜ Printed (refusalLine r) (now (out .entry)) (now (out .exit)) size ⌝ }
 {
+    let n = number(r);
+    let d = detail(r);
     let next = copy_at(out, 0, b"refused", b' ');
-    let next = short_at(out, next, number(r), b' ');
+    let next = short_at(out, next, n, b' ');
     let next = copy_at(out, next, b"at", b' ');
-    number_at(out, next, detail(r), b'\n')
+    number_at(out, next, d, b'\n')
 }
