@@ -4,7 +4,7 @@
 use mathlib.Core.Path.{_≡_, refl, sym, ap, _∙_}
 use mathlib.Core.List.{List, [], _∷_, _++_, append-assoc}
 use Prim.Native.Nat.{ℕ, zero, suc, _+_, _-_, _*_, _/_, _≤_, _<_}
-use native.Mathlib.Nat.{sub-zero, add-zero, zero-add, add-suc, suc-add}
+use native.Mathlib.Nat.{sub-zero, mul-suc, add-zero, zero-add, add-suc, suc-add}
 use native.Mathlib.Numerals.{add-one, one-add}
 use native.Mathlib.Omega.{arith}
 use lib.ListN.{length, getD, take, drop, length-append, List·getD-append}
@@ -104,6 +104,16 @@ module _ (locks variables : ℕ) (s : List ℕ) (n t at : ℕ) (report : List �
       ∙ ap (λ (m : ℕ). getD (threadLines s (suc t) (threadsAt locks variables s n (at + 2 + 4 * countAt s at)) (drop (m + 1) report) ++ others) j []) (length-instructions locks variables s (countAt s at) (at + 2))
 
 -- A walk over the code sections
+
+-- a sound file's instructions are few
+sections-few : (s : List ℕ) (locks variables n at m : ℕ) → SoundSections s locks variables n at m → m ≤ 1024 * n
+sections-few s locks variables zero at m x = omega (arith, x .1)
+sections-few s locks variables (suc n) at m x =
+    omega (arith, x .1 .few, x .2, sections-few s locks variables n (at + 2 + 4 * countAt s at) (x .0) (x .3), mul-suc 1024 n)
+
+pub instructions-few : {s : List ℕ} {l : Layout} → SoundFile s l → l .instructions ≤ 8192
+instructions-few {s} {l} f =
+    omega (arith, sections-few s (l .locks) (l .variables) (l .threads) (5 + 6 * l .variables) (l .instructions) (f .sections), f .threads)
 
 -- where it starts
 pub walk-start : (s : List ℕ) (l : Layout) → SoundFile s l → Walk s l 0 (5 + 6 * l .variables) 0
@@ -245,3 +255,30 @@ module _ (s : List ℕ) (l : Layout) (report : List ℕ) where
       past-head (l .variables + j)
       ∙ ap (λ (n : ℕ). getD (variableLines s 0 (programOf s l .variables) ++ itemLines s l report) (n + j) []) (sym length-variable-part)
       ∙ getD-append-add (variableLines s 0 (programOf s l .variables)) (itemLines s l report) j []
+
+-- How many lines there are
+
+length-thread-lines : (s : List ℕ) (locks variables n t at m : ℕ) (report : List ℕ) → SoundSections s locks variables n at m
+    → length (threadLines s t (threadsAt locks variables s n at) report) ≡ m + n
+unfolding threadLines threadsAt
+length-thread-lines s locks variables zero t at m report x = omega (arith, x .1)
+length-thread-lines s locks variables (suc n) t at m report x =
+    let is : List Instruction = instructionsAt locks variables s (countAt s at) (at + 2) in
+    let code : List (List ℕ) = codeLines s (at + 2) 0 is report in
+    let rest : List CodeSection = threadsAt locks variables s n (at + 2 + 4 * countAt s at) in
+    let after : List ℕ = drop (length is + 1) report in
+    omega (arith, length-append code (threadLines s (suc t) rest after), length-code-lines s (at + 2) 0 is report,
+      length-instructions locks variables s (countAt s at) (at + 2),
+      length-thread-lines s locks variables n (suc t) (at + 2 + 4 * countAt s at) (x .0) after (x .3), x .2)
+
+-- "line count"
+pub length-lines : (s : List ℕ) (l : Layout) (report : List ℕ) → SoundFile s l
+    → length (lines s (programOf s l) report) ≡ 4 + l .variables + l .threads + l .instructions + l .threads
+unfolding headLines itemLines programOf
+length-lines s l report f =
+    let vs : List (List ℕ) = variableLines s 0 (programOf s l .variables) in
+    let ts : List (List ℕ) = threadLines s 0 (programOf s l .threads) report in
+    let ws : List (List ℕ) = wholeLines 0 (programOf s l .threads) report in
+    omega (arith, ap length (lines-parts s l report), length-append vs (ts ++ ws), length-append ts ws, length-variable-part s l report,
+      length-thread-lines s (l .locks) (l .variables) (l .threads) 0 (5 + 6 * l .variables) (l .instructions) report (f .sections),
+      length-whole-lines 0 (programOf s l .threads) report, length-threads (l .locks) (l .variables) s (l .threads) (5 + 6 * l .variables))

@@ -9,8 +9,9 @@ ghost use mathlib.Core.List.{List, [], _∷_, _++_};
 ghost use Prim.Native.Nat.{ℕ, _+_, _*_, _≤_, _<_};
 ghost use lib.ListN.{length, getD};
 ghost use Rattle.program.specs.Layout.{programOf};
+ghost use Rattle.program.specs.Variable.{variableAt};
 ghost use Rattle.program.specs.Sound.{SoundFile};
-ghost use Rattle.printout.specs.Line.{lines, variableLines, wholeLines};
+ghost use Rattle.printout.specs.Line.{lines, variableLine, wholeLines};
 ghost use Rattle.printout.specs.Writing.{Printed};
 ghost use Rattle.printout.specs.Item.{headLines, itemLine, itemLines, ItemGood, wholeLine};
 
@@ -90,4 +91,49 @@ fn whole_byte(file: &[u8], l: Layout, t: usize) -> usize
         u += 1;
     }
     from
+}
+
+// Variable v's line.
+fn print_variable(file: &[u8], l: Layout, v: usize, out: &mut [u8]) -> usize
+    requires { ⌜ SoundFile (now file) l × (v < l .variables) × (48 ≤ length (now out)) ⌝ }
+    ensures { λ r. ⌜ Printed (variableLine (now (file .entry)) v (variableAt (l .locks) (l .threads) (now (file .entry)) (5 + 6 * v))) (now (out .entry)) (now (out .exit)) r ⌝ }
+{
+    let at = 5 + 6 * v;
+    let kind = kind_at(file, at, l.locks, l.threads);
+    let initial = initial_at(file, at);
+    variable_line(file, at, v as u8, kind, initial, out)
+}
+
+// A line after those of the variables.
+fn print_item(file: &[u8], l: Layout, report: &[u8], item: Item, out: &mut [u8]) -> usize
+    requires { ⌜ SoundFile (now file) l × (l .instructions + l .threads ≤ length (now report)) × ItemGood (now file) l item × (48 ≤ length (now out)) ⌝ }
+    ensures { λ r. ⌜ Printed (itemLine (now (file .entry)) l (now (report .entry)) item) (now (out .entry)) (now (out .exit)) r ⌝ }
+{
+    match item {
+        Item::Thread(t, at) => thread_line(file, at, t, code_count(file, at), out),
+        Item::Code(at, place, from) => {
+            let i = instruction_at(file, at, l.locks, l.variables);
+            instruction_line(file, at, place, i, report[from], out)
+        }
+        Item::Whole(t) => {
+            let from = whole_byte(file, l, t);
+            whole_line(t, report[from], out)
+        }
+    }
+}
+
+// Line i of the printout, for a buffer of 48 bytes or more; answers the line's length.
+pub fn write_line(file: &[u8], l: Layout, report: &[u8], i: usize, out: &mut [u8]) -> usize
+    requires { ⌜ SoundFile (now file) l × (l .instructions + l .threads ≤ length (now report)) × (i < 4 + l .variables + l .threads + l .instructions + l .threads) × (48 ≤ length (now out)) ⌝ }
+    ensures { λ r. ⌜ Printed (getD (lines (now (file .entry)) (programOf (now (file .entry)) l) (now (report .entry))) i []) (now (out .entry)) (now (out .exit)) r ⌝ }
+{
+    if i < 4 {
+        return print_head(file, l.variables, i, out);
+    }
+    let past = i - 4;
+    if past < l.variables {
+        return print_variable(file, l, past, out);
+    }
+    let item = item_at(file, l, past - l.variables);
+    print_item(file, l, report, item, out)
 }

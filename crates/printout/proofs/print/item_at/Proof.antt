@@ -8,7 +8,7 @@ use lib.ListN.{length, getD}
 use Rattle.program.specs.Sound.{countAt}
 use Rattle.printout.specs.Item.{Walk, linesFrom, itemLines, itemLine}
 use Rattle.printout.specs.declared.print.Item.the-variants.{Code}
-use Rattle.printout.proofs.Parts.{walk-start, walk-here, walk-room, walk-next, walk-end, lines-here, lines-code, lines-next, lines-done, lines-start}
+use Rattle.printout.proofs.Parts.{instructions-few, walk-start, walk-here, walk-room, walk-next, walk-end, lines-here, lines-code, lines-next, lines-done, lines-start}
 use Rattle.printout.proofs.print.item_at.Statement.{statement}
 use Rattle.printout.proofs.print.item_at.Tie as tie
 
@@ -72,7 +72,7 @@ add-t12 c =
     let w = l .inv .0 in
     let section = walk-here w h in
     let count = c .before .before .code-count in
-    omega (arith, section .head, section .whole, count .ensures, walk-room w h, sound .threads)
+    omega (arith, instructions-few sound, section .head, section .whole, count .ensures, walk-room w h, sound .threads)
 
 mul-t13 : tie.Need-mul-t13 Inv-loop μ-loop
 mul-t13 c =
@@ -83,7 +83,7 @@ mul-t13 c =
     let w = l .inv .0 in
     let section = walk-here w h in
     let count = c .before .before .code-count in
-    omega (arith, section .head, section .whole, count .ensures, walk-room w h, sound .threads)
+    omega (arith, instructions-few sound, section .head, section .whole, count .ensures, walk-room w h, sound .threads)
 
 add-t14 : tie.Need-add-t14 Inv-loop μ-loop
 add-t14 c =
@@ -94,7 +94,7 @@ add-t14 c =
     let w = l .inv .0 in
     let section = walk-here w h in
     let count = c .before .before .code-count in
-    omega (arith, section .head, section .whole, count .ensures, walk-room w h, sound .threads)
+    omega (arith, instructions-few sound, section .head, section .whole, count .ensures, walk-room w h, sound .threads)
 
 sub-t15 : tie.Need-sub-t15 Inv-loop μ-loop
 sub-t15 c = omega (arith, c .before .if2 .left)
@@ -128,7 +128,7 @@ add-from c =
     let w = l .inv .0 in
     let section = walk-here w h in
     let count = c .before .before .code-count in
-    omega (arith, section .head, section .whole, count .ensures, walk-room w h, sound .threads)
+    omega (arith, instructions-few sound, section .head, section .whole, count .ensures, walk-room w h, sound .threads)
 
 add-from-2 : tie.Need-add-from-2 Inv-loop μ-loop
 add-from-2 c =
@@ -139,7 +139,7 @@ add-from-2 c =
     let w = l .inv .0 in
     let section = walk-here w h in
     let count = c .before .before .code-count in
-    omega (arith, section .head, section .whole, count .ensures, walk-room w h, sound .threads)
+    omega (arith, instructions-few sound, section .head, section .whole, count .ensures, walk-room w h, sound .threads)
 
 add-at-2 : tie.Need-add-at-2 Inv-loop μ-loop
 add-at-2 c =
@@ -150,7 +150,7 @@ add-at-2 c =
     let w = l .inv .0 in
     let section = walk-here w h in
     let count = c .before .before .code-count in
-    omega (arith, section .head, section .whole, count .ensures, walk-room w h, sound .threads)
+    omega (arith, instructions-few sound, section .head, section .whole, count .ensures, walk-room w h, sound .threads)
 
 mul-at-2 : tie.Need-mul-at-2 Inv-loop μ-loop
 mul-at-2 c =
@@ -161,7 +161,7 @@ mul-at-2 c =
     let w = l .inv .0 in
     let section = walk-here w h in
     let count = c .before .before .code-count in
-    omega (arith, section .head, section .whole, count .ensures, walk-room w h, sound .threads)
+    omega (arith, instructions-few sound, section .head, section .whole, count .ensures, walk-room w h, sound .threads)
 
 add-at-3 : tie.Need-add-at-3 Inv-loop μ-loop
 add-at-3 c =
@@ -172,7 +172,7 @@ add-at-3 c =
     let w = l .inv .0 in
     let section = walk-here w h in
     let count = c .before .before .code-count in
-    omega (arith, section .head, section .whole, count .ensures, walk-room w h, sound .threads)
+    omega (arith, instructions-few sound, section .head, section .whole, count .ensures, walk-room w h, sound .threads)
 
 add-t : tie.Need-add-t Inv-loop μ-loop
 add-t c =
