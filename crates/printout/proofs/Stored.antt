@@ -105,3 +105,7 @@ printed {ws} {k} {l} {q} h b f =
     ; bytes = f .laid .stored ∙ sets-eq (lineOf ws) k 0 (omega (arith, f .laid .ends)) ∙ ap (λ (n : ℕ). lineOf ws ++ drop n k) e
     ; short = h
     }
+
+-- the same line, said another way
+pub printed-same : {x y k l : List ℕ} {q : ℕ} → x ≡ y → Printed x k l q → Printed y k l q
+printed-same e f = rw (← e) f
