@@ -1,27 +1,23 @@
 -- The open entries as the code holds them, in an array with a depth, and what one instruction does to them: how the contracts of
 -- src/nesting.rt's inner functions cite the definitions of Nesting, which are over lists. Nothing above that module cites it.
-use Prim.Native.Nat.{ℕ, zero, suc, _<_}
+use Prim.Native.Nat.{ℕ, zero, suc, _+_, _-_, _<_}
 use mathlib.Core.Path.{_≡_}
 use mathlib.Core.List.{List, [], _∷_}
-use lib.ListN.{getD, length}
+use lib.ListN.{getD, set, length}
 use Rattle.program.specs.Nesting.{Nested, broken, opened}
 use Rattle.program.specs.declared.nesting.Entry.{Entry}
-use Rattle.program.specs.declared.nesting.Entry.the-variants.{Block}
+use Rattle.program.specs.declared.nesting.Entry.the-variants.{Then}
 use Rattle.program.specs.declared.nesting.Top.{Top}
 use Rattle.program.specs.declared.nesting.Top.the-variants.{Empty, Holds}
 use Rattle.program.specs.declared.nesting.Change.{Change}
 use Rattle.program.specs.declared.nesting.Change.the-variants.{Keep, Push, Replace, Pop}
 use Rattle.program.specs.declared.nesting.Turn.{Turn}
 use Rattle.program.specs.declared.nesting.Turn.the-variants.{Broken, Goes}
-use Rattle.program.specs.declared.nesting.Stack.{Stack}
 
 -- the first entries of an array, the last of them innermost and so first
 unfoldable pub entriesOf : ℕ → List Entry → List Entry
 entriesOf zero xs = []
-entriesOf (suc d) xs = getD xs d (Block 0) ∷ entriesOf d xs
-
-abbrev pub heldBy : Stack → List Entry
-heldBy k = entriesOf (k .depth) (k .entries)
+entriesOf (suc d) xs = getD xs d (Then 0) ∷ entriesOf d xs
 
 -- the innermost entry with those below it
 abbrev pub under : Top → List Entry → List Entry
@@ -39,18 +35,31 @@ abbrev pub turned : Turn → Top → List Entry → Nested
 turned Broken top below = broken
 turned (Goes ch) top below = opened (changed ch top below)
 
--- a change has room: an entry is pushed only below a depth of 16, and replaced or popped only where there is one
-abbrev pub Room : Change → List Entry → Type 0
-Room Keep es = Unit
-Room (Push e) es = length es < 16
-Room (Replace e) es = 0 < length es
-Room Pop es = 0 < length es
+-- the array and the depth after a change
+abbrev pub entriesAfter : Change → ℕ → List Entry → List Entry
+entriesAfter Keep depth xs = xs
+entriesAfter (Push e) depth xs = set xs depth e
+entriesAfter (Replace e) depth xs = set xs (depth - 1) e
+entriesAfter Pop depth xs = xs
 
-abbrev pub RoomOf : Turn → List Entry → Type 0
-RoomOf Broken es = Unit
-RoomOf (Goes ch) es = Room ch es
+abbrev pub depthAfter : Change → ℕ → ℕ
+depthAfter Keep depth = depth
+depthAfter (Push e) depth = depth + 1
+depthAfter (Replace e) depth = depth
+depthAfter Pop depth = depth - 1
+
+-- a change has room: an entry is pushed only below a depth of 16, and replaced or popped only where there is one
+abbrev pub Room : Change → ℕ → Type 0
+Room Keep depth = Unit
+Room (Push e) depth = depth < 16
+Room (Replace e) depth = 0 < depth
+Room Pop depth = 0 < depth
+
+abbrev pub RoomOf : Turn → ℕ → Type 0
+RoomOf Broken depth = Unit
+RoomOf (Goes ch) depth = Room ch depth
 
 -- the turn does what is wanted, and has room
 pub record Right (t : Turn) (top : Top) (below : List Entry) (wanted : Nested) : Type 0 where
   pub does : turned t top below ≡ wanted
-  pub room : RoomOf t (under top below)
+  pub room : RoomOf t (length (under top below))

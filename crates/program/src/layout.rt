@@ -1,10 +1,17 @@
-// What reading a whole file answers (document 01, "Who can bring a number about": the sender's part).
+// Reading the whole file, front to back (document 01, "The file"; "Who can bring a number about": the sender's part). The first
+// offence decides.
+use crate::cursor::{byte_at, byte_field, pair_at, section, Cursor, Field};
+use crate::found::Found;
+use crate::instruction::first_bad_instruction;
+use crate::nesting::first_broken;
 use crate::refusal::Refusal;
-use crate::cursor::pair_at;
+use crate::variable::first_bad_record;
 ghost use mathlib.Core.Path.{_≡_};
 ghost use Prim.Native.Nat.{_+_, _/_, _≤_};
 ghost use lib.ListN.{length};
 ghost use Rattle.program.specs.Field.{pairAt};
+ghost use Rattle.program.specs.Layout.{variableSection, codeSection, codeSections, reading};
+ghost use Rattle.program.specs.Layout as File;
 
 // The counts of a sound file, by which every section is found.
 pub struct Layout {
@@ -25,4 +32,118 @@ pub fn code_count(s: &[u8], at: usize) -> usize
     ensures { λ r. ⌜ r ≡ pairAt (now (s .entry)) at / 4 ⌝ }
 {
     pair_at(s, at) / 4
+}
+
+// The variable section.
+fn variable_section(s: &[u8], c: Cursor, locks: usize, threads: usize) -> Field
+    ensures { λ r. ⌜ r ≡ variableSection locks threads (now (s .entry)) c ⌝ }
+{
+    let f = section(s, c, 6, 384);
+    let Field::Value(n, first) = f else {
+        return f;
+    };
+    let start = first.at;
+    let bad = first_bad_record(s, start, n, locks, threads);
+    match bad {
+        Found::At(d) => Field::Refused(Refusal::Record(d)),
+        Found::Nowhere => Field::Value(n, Cursor { at: start + 6 * n }),
+    }
+}
+
+// One thread's code section: all its instructions, then its nesting.
+fn code_section(s: &[u8], c: Cursor, locks: usize, variables: usize) -> Field
+    ensures { λ r. ⌜ r ≡ codeSection locks variables (now (s .entry)) c ⌝ }
+{
+    let f = section(s, c, 4, 4096);
+    let Field::Value(n, first) = f else {
+        return f;
+    };
+    let start = first.at;
+    let bad = first_bad_instruction(s, start, n, locks, variables);
+    if let Found::At(d) = bad {
+        return Field::Refused(Refusal::Instruction(d));
+    }
+    let broken = first_broken(s, start, n, locks, variables);
+    match broken {
+        Found::At(d) => Field::Refused(Refusal::Nesting(d)),
+        Found::Nowhere => Field::Value(n, Cursor { at: start + 4 * n }),
+    }
+}
+
+// The code sections of n threads: how many instructions they have together.
+fn code_sections(s: &[u8], c: Cursor, n: usize, locks: usize, variables: usize) -> Field
+    requires { ⌜ n ≤ 8 ⌝ }
+    ensures { λ r. ⌜ r ≡ codeSections locks variables (now (s .entry)) n c ⌝ }
+{
+    let mut at = c.at;
+    let mut left = n;
+    let mut total: usize = 0;
+    while 0 < left {
+        let f = code_section(s, Cursor { at }, locks, variables);
+        let Field::Value(count, d) = f else {
+            return f;
+        };
+        at = d.at;
+        left -= 1;
+        total += count;
+    }
+    Field::Value(total, Cursor { at })
+}
+
+fn fields(s: &[u8]) -> Field
+    ensures { λ r. ⌜ r ≡ File.fields (now (s .entry)) ⌝ }
+{
+    let f = byte_field(s, Cursor { at: 0 });
+    let Field::Value(version, c1) = f else {
+        return f;
+    };
+    if version != 1 {
+        return Field::Refused(Refusal::Version(0));
+    }
+    let f = byte_field(s, c1);
+    let Field::Value(locks, c2) = f else {
+        return f;
+    };
+    if 16 < locks {
+        return Field::Refused(Refusal::Count(1));
+    }
+    let f = byte_field(s, c2);
+    let Field::Value(threads, c3) = f else {
+        return f;
+    };
+    if threads < 1 {
+        return Field::Refused(Refusal::Count(2));
+    }
+    if 8 < threads {
+        return Field::Refused(Refusal::Count(2));
+    }
+    let f = variable_section(s, c3, locks, threads);
+    let Field::Value(variables, c4) = f else {
+        return f;
+    };
+    let f = code_sections(s, c4, threads, locks, variables);
+    let Field::Value(instructions, c5) = f else {
+        return f;
+    };
+    let end = c5.at;
+    if end != s.len() {
+        return Field::Refused(Refusal::LeftOver(end));
+    }
+    Field::Value(instructions, c5)
+}
+
+// A file read front to back: sound, or the first offence.
+pub fn read(s: &[u8]) -> Reading
+    ensures { λ r. ⌜ r ≡ reading (now (s .entry)) ⌝ }
+{
+    let f = fields(s);
+    match f {
+        Field::Value(n, _) => Reading::Sound(Layout {
+            locks: byte_at(s, 1),
+            threads: byte_at(s, 2),
+            variables: pair_at(s, 3) / 6,
+            instructions: n,
+        }),
+        Field::Refused(r) => Reading::Refused(r),
+    }
 }

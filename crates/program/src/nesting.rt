@@ -4,12 +4,12 @@ use crate::instruction::{form_of, instruction_at, Form};
 ghost use mathlib.Core.Path.{_≡_};
 ghost use mathlib.Core.Bool.{not};
 ghost use mathlib.Core.List.{List, []};
-ghost use Prim.Native.Nat.{_+_, _*_, _^_, _≤_, _<_};
+ghost use Prim.Native.Nat.{_+_, _-_, _*_, _^_, _≤_, _<_};
 ghost use lib.ListN.{length};
 ghost use Rattle.program.specs.Nesting.{unnamed, opening, passing, atElse, atAgain, atEnd, nest, firstBroken};
 ghost use Rattle.program.specs.Nesting as Nesting;
 ghost use Rattle.program.specs.Layout.{instructionsAt, offsetFrom};
-ghost use Rattle.program.specs.Stack.{under, Right, Room, entriesOf, heldBy};
+ghost use Rattle.program.specs.Stack.{under, Right, Room, entriesOf, entriesAfter, depthAfter};
 
 // The entries that openers open. Each names the place of its closer.
 pub enum Entry {
@@ -40,12 +40,6 @@ pub enum Change {
 pub enum Turn {
     Broken,
     Goes(Change),
-}
-
-// The first `depth` elements are open, the last of them innermost.
-pub struct Stack {
-    pub entries: [Entry; 16],
-    pub depth: usize,
 }
 
 fn named(e: Entry) -> usize
@@ -194,4 +188,72 @@ fn turn_at(p: usize, f: Form, top: Top, depth: usize) -> Turn
         }
         Form::End => at_end(p, top),
     }
+}
+
+// The open entries are the first `depth` elements of an array, the last of them innermost.
+fn innermost(entries: [Entry; 16], depth: usize) -> Top
+    requires { ⌜ depth ≤ 16 ⌝ }
+    ensures { λ r. ⌜ entriesOf depth entries ≡ under r (entriesOf (depth - 1) entries) ⌝ }
+{
+    if depth == 0 {
+        return Top::Empty;
+    }
+    Top::Holds(entries[depth - 1])
+}
+
+fn entries_after(entries: [Entry; 16], depth: usize, ch: Change) -> [Entry; 16]
+    requires { ⌜ (depth ≤ 16) × Room ch depth ⌝ }
+    ensures { λ r. ⌜ r ≡ entriesAfter ch depth entries ⌝ }
+{
+    let mut after = entries;
+    match ch {
+        Change::Keep => after,
+        Change::Push(e) => {
+            after[depth] = e;
+            after
+        }
+        Change::Replace(e) => {
+            after[depth - 1] = e;
+            after
+        }
+        Change::Pop => after,
+    }
+}
+
+fn depth_after(depth: usize, ch: Change) -> usize
+    requires { ⌜ (depth ≤ 16) × Room ch depth ⌝ }
+    ensures { λ r. ⌜ r ≡ depthAfter ch depth ⌝ }
+{
+    match ch {
+        Change::Keep => depth,
+        Change::Push(_) => depth + 1,
+        Change::Replace(_) => depth,
+        Change::Pop => depth - 1,
+    }
+}
+
+// Where nesting is first broken, as an offset.
+pub fn first_broken(s: &[u8], start: usize, n: usize, locks: usize, variables: usize) -> Found
+    requires { ⌜ start + 4 * n ≤ length (now s) ⌝ }
+    ensures { λ r. ⌜ r ≡ offsetFrom start (firstBroken 0 (instructionsAt locks variables (now (s .entry)) n start) []) ⌝ }
+{
+    let mut entries = [Entry::Block(0); 16];
+    let mut depth = 0;
+    let mut p = 0;
+    while p < n {
+        let at = start + 4 * p;
+        let f = form_of(instruction_at(s, at, locks, variables));
+        let t = turn_at(p, f, innermost(entries, depth), depth);
+        let Turn::Goes(ch) = t else {
+            return Found::At(at);
+        };
+        let after = entries_after(entries, depth, ch);
+        entries = after;
+        depth = depth_after(depth, ch);
+        p += 1;
+    }
+    if depth == 0 {
+        return Found::Nowhere;
+    }
+    Found::At(start + 4 * n)
 }

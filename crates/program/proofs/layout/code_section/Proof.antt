@@ -1,0 +1,93 @@
+-- `code_section` meets its contract. Assumes nothing.
+use Prim.Native.Nat.{_+_, _*_, _≤_}
+use mathlib.Core.Path.{sym, ap, _∙_}
+use lib.ListN.{length}
+use native.Mathlib.Omega.{arith}
+use Rattle.program.specs.Layout.{codeSection}
+use Rattle.program.specs.declared.cursor.Cursor.{Cursor}
+use Rattle.program.proofs.Answers.{section-value}
+use borrow.Author.Needs.{needs}
+use Rattle.program.proofs.layout.code_section.Statement.{statement}
+use Rattle.program.proofs.layout.code_section.Tie as tie
+
+-- the records are inside the file
+fits : (u : tie.After-f) → u .f .given .0 .1 .0 .at + 4 * u .f .given .0 .0 ≤ length (u .before .before .before .before .args .s .now)
+fits u =
+    let a = u .before .before .before .before .args in
+    let h = section-value 4 4096 (a .s .now) (a .c) (u .f .given .0 .0) (u .f .given .0 .1 .0) (sym (u .before .before .section .ensures) ∙ u .f .given .1) in
+    omega (arith, ap (λ (x : Cursor). x .at) (h .start), h .whole)
+
+section-requires : tie.Need-section-requires
+section-requires c κs = search needs
+
+enum-known-f : tie.Need-enum-known-f
+enum-known-f c = search needs
+
+enum-told : tie.Need-enum-told
+enum-told c = search needs
+
+returns : tie.Need-returns
+unfolding codeSection
+returns c = rw (← c .before .before .section .ensures, c .enum-told .given .1)
+
+first-bad-instruction-requires : tie.Need-first-bad-instruction-requires
+first-bad-instruction-requires c κs = fits (c .before)
+
+enum-known-bad : tie.Need-enum-known-bad
+enum-known-bad c = search needs
+
+returns-2 : tie.Need-returns-2
+unfolding codeSection
+returns-2 c = rw (← c .before .before .before .before .before .before .before .section .ensures, c .before .before .before .before .before .f .given .1, ← c .before .before .before .first-bad-instruction .ensures, c .before .bad .given .1)
+
+enum-told-2 : tie.Need-enum-told-2
+enum-told-2 c = search needs
+
+first-broken-requires : tie.Need-first-broken-requires
+first-broken-requires c κs = fits (c .before .before .before .before)
+
+enum-known-broken : tie.Need-enum-known-broken
+enum-known-broken c = search needs
+
+enum-told-3 : tie.Need-enum-told-3
+enum-told-3 c = search needs
+
+mul-t16 : tie.Need-mul-t16
+mul-t16 c = omega (arith, fits (c .before .before .before .before .before .before .before))
+
+add-t17 : tie.Need-add-t17
+add-t17 c = omega (arith, fits (c .before .before .before .before .before .before .before))
+
+returns-3 : tie.Need-returns-3
+unfolding codeSection
+returns-3 c =
+    rw
+    (← c .before .before .before .before .before .before .before .before .before .before .section .ensures, c .before .before .before .before .before .before .before .before .f .given .1, ← c .before .before .before .before .before .before .first-bad-instruction .ensures, c .before .before .before .before .enum-told2 .given .1
+    , ← c .before .before .before .first-broken .ensures, c .before .broken .given .1)
+
+returns-4 : tie.Need-returns-4
+unfolding codeSection
+returns-4 c =
+    rw
+    (← c .before .before .before .before .before .before .before .before .before .section .ensures, c .before .before .before .before .before .before .before .f .given .1, ← c .before .before .before .before .before .first-bad-instruction .ensures, c .before .before .before .enum-told2 .given .1
+    , ← c .before .before .first-broken .ensures, c .enum-told3 .given .1)
+
+pub code-section-spec : {M : Type 1} → statement M
+code-section-spec =
+    tie.close
+    (tie.spec
+    section-requires
+    enum-known-f
+    enum-told
+    returns
+    first-bad-instruction-requires
+    enum-known-bad
+    returns-2
+    enum-told-2
+    first-broken-requires
+    enum-known-broken
+    enum-told-3
+    mul-t16
+    add-t17
+    returns-3
+    returns-4)

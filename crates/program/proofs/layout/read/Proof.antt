@@ -1,0 +1,58 @@
+-- `read` meets its contract. Assumes nothing.
+use Prim.Native.Nat.{_≤_}
+use mathlib.Core.Path.{sym, _∙_}
+use lib.ListN.{length}
+use native.Mathlib.Omega.{arith}
+use Rattle.program.specs.Layout.{reading}
+use Rattle.program.proofs.Sound.{fields-sound}
+use borrow.Author.Needs.{needs}
+use Rattle.program.proofs.layout.read.Statement.{statement}
+use Rattle.program.proofs.layout.read.Tie as tie
+
+-- a value was read past the two bytes at 3
+long : (u : tie.After-f) → 5 ≤ length (u .before .before .before .before .args .s .now)
+long u =
+    fields-sound (u .before .before .before .before .args .s .now) (u .f .given .0 .0) (u .f .given .0 .1 .0) (sym (u .before .before .fields .ensures) ∙ u .f .given .1) .1 .1 .section .field
+
+fields-requires : tie.Need-fields-requires
+fields-requires c κs = search needs
+
+enum-known-f : tie.Need-enum-known-f
+enum-known-f c = search needs
+
+byte-at-requires : tie.Need-byte-at-requires
+byte-at-requires c κs = omega (arith, long (c .before))
+
+byte-at-requires-2 : tie.Need-byte-at-requires-2
+byte-at-requires-2 c κs = omega (arith, long (c .before .before))
+
+pair-at-requires : tie.Need-pair-at-requires
+pair-at-requires c κs = omega (arith, long (c .before .before .before))
+
+enum-known-f-2 : tie.Need-enum-known-f-2
+enum-known-f-2 c = search needs
+
+returns : tie.Need-returns
+unfolding reading
+returns c =
+    rw
+    ( ← c .before .before .before .before .before .before .fields .ensures, c .before .before .before .before .f .given .1
+    , ← c .pair-at .ensures .0, ← c .before .byte-at2 .ensures .0, ← c .before .before .byte-at .ensures .0
+    )
+
+returns-2 : tie.Need-returns-2
+unfolding reading
+returns-2 c = rw (← c .before .before .before .fields .ensures, c .before .f2 .given .1)
+
+pub read-spec : {M : Type 1} → statement M
+read-spec =
+    tie.close
+    (tie.spec
+    fields-requires
+    enum-known-f
+    byte-at-requires
+    byte-at-requires-2
+    pair-at-requires
+    enum-known-f-2
+    returns
+    returns-2)
