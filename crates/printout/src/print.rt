@@ -8,9 +8,10 @@ ghost use mathlib.Core.Path.{_≡_};
 ghost use mathlib.Core.List.{List, [], _∷_, _++_};
 ghost use Prim.Native.Nat.{ℕ, _+_, _*_, _≤_, _<_};
 ghost use lib.ListN.{length, getD};
-ghost use Rattle.program.specs.Layout.{programOf};
+ghost use Rattle.program.specs.Layout.{programOf, reading};
 ghost use Rattle.program.specs.Variable.{variableAt};
 ghost use Rattle.program.specs.Sound.{SoundFile};
+ghost use Rattle.program.specs.declared.layout.Reading.the-variants.{Sound};
 ghost use Rattle.printout.specs.Line.{lines, variableLine, wholeLines};
 ghost use Rattle.printout.specs.Writing.{Printed};
 ghost use Rattle.printout.specs.Item.{headLines, itemLine, itemLines, ItemGood, wholeLine};
@@ -124,7 +125,7 @@ fn print_item(file: &[u8], l: Layout, report: &[u8], item: Item, out: &mut [u8])
 
 // Line i of the printout, for a buffer of 48 bytes or more; answers the line's length.
 pub fn write_line(file: &[u8], l: Layout, report: &[u8], i: usize, out: &mut [u8]) -> usize
-    requires { ⌜ SoundFile (now file) l × (l .instructions + l .threads ≤ length (now report)) × (i < 4 + l .variables + l .threads + l .instructions + l .threads) × (48 ≤ length (now out)) ⌝ }
+    requires { ⌜ (reading (now file) ≡ Sound l) × (l .instructions + l .threads ≤ length (now report)) × (i < 4 + l .variables + l .threads + l .instructions + l .threads) × (48 ≤ length (now out)) ⌝ }
     ensures { λ r. ⌜ Printed (getD (lines (now (file .entry)) (programOf (now (file .entry)) l) (now (report .entry))) i []) (now (out .entry)) (now (out .exit)) r ⌝ }
 {
     if i < 4 {

@@ -6,6 +6,7 @@ use native.Mathlib.Omega.{arith}
 use lib.ListN.{getD}
 use Rattle.program.specs.Layout.{programOf}
 use Rattle.printout.specs.Line.{lines}
+use Rattle.program.proofs.Sound.{sound-file}
 use Rattle.printout.proofs.Stored.{printed-same}
 use Rattle.printout.proofs.Parts.{line-head, line-variable, line-item}
 use borrow.Author.Needs.{needs}
@@ -13,7 +14,10 @@ use Rattle.printout.proofs.print.write_line.Statement.{statement}
 use Rattle.printout.proofs.print.write_line.Tie as tie
 
 print-head-requires : tie.Need-print-head-requires
-print-head-requires c κs = search needs
+print-head-requires c κs =
+    let start = c .before .before .before .before .before in
+    let sound = sound-file (start .args .file .now) (start .args .l) (start .pre .0) in
+    (omega (arith, sound .section), sound .variables, c .before .if1 .taken, start .pre .3)
 
 same-length : tie.Need-same-length
 same-length c = search needs
@@ -26,7 +30,10 @@ returns c =
     printed-same (sym (line-head s (a .l) report (a .i) (c .before .before .before .before .if1 .taken))) (c .before .before .print-head .ensures)
 
 print-variable-requires : tie.Need-print-variable-requires
-print-variable-requires c κs = search needs
+print-variable-requires c κs =
+    let start = c .before .before .before .before .before .before .before in
+    let sound = sound-file (start .args .file .now) (start .args .l) (start .pre .0) in
+    (sound, c .before .if2 .taken, start .pre .3)
 
 same-length-2 : tie.Need-same-length-2
 same-length-2 c = search needs
@@ -40,10 +47,16 @@ returns-2 c =
     printed-same (sym (line-variable s (a .l) report (a .i - 4) (c .before .before .before .before .if2 .taken)) ∙ ap (λ (n : ℕ). getD (lines s (programOf s (a .l)) report) n []) e) (c .before .before .print-variable .ensures)
 
 item-at-requires : tie.Need-item-at-requires
-item-at-requires c κs = search needs
+item-at-requires c κs =
+    let start = c .before .before .before .before .before .before .before in
+    let sound = sound-file (start .args .file .now) (start .args .l) (start .pre .0) in
+    (sound, omega (arith, start .pre .2, c .before .before .before .if1 .left, c .before .if2 .left))
 
 print-item-requires : tie.Need-print-item-requires
-print-item-requires c κs = search needs
+print-item-requires c κs =
+    let start = c .before .before .before .before .before .before .before .before .before in
+    let sound = sound-file (start .args .file .now) (start .args .l) (start .pre .0) in
+    (sound, start .pre .1, c .before .item-at .ensures .1, start .pre .3)
 
 same-length-3 : tie.Need-same-length-3
 same-length-3 c = search needs
