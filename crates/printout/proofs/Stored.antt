@@ -86,6 +86,11 @@ pub line-with : {w v : List ℕ} {ws vs : List (List ℕ)} {k l m n : List ℕ} 
 unfolding blanked
 line-with {w} {v} {ws} {vs} f g h = record { laid = rw (lineOf-several (w ∷ ws) v vs) (laid-then (laid-then (f .laid) (g .laid)) (h .laid)) }
 
+-- several words before those
+pub line-several : {v : List ℕ} {ws vs : List (List ℕ)} {k l m : List ℕ} {at p q : ℕ}
+    → LaidWords ws at k l p → LaidLine (v ∷ vs) p l m q → LaidLine (ws ++ v ∷ vs) at k m q
+line-several {v} {ws} {vs} f g = record { laid = rw (lineOf-several ws v vs) (laid-then (f .laid) (g .laid)) }
+
 -- a word with a blank before others with theirs; the last of them
 pub words-more : {w : List ℕ} {ws : List (List ℕ)} {k l m : List ℕ} {at p q : ℕ}
     → LaidWord w 32 at k l p → LaidWords ws p l m q → LaidWords (w ∷ ws) at k m q

@@ -5,13 +5,14 @@ use crate::refusal::{detail, number};
 use program::instruction::Instruction;
 use program::variable::Kind;
 use program::refusal::Refusal;
+ghost use mathlib.Core.Path.{_≡_};
 ghost use mathlib.Core.List.{[], _∷_, _++_};
 ghost use Prim.Native.Nat.{_+_, _*_, _≤_, _<_};
 ghost use lib.ListN.{length};
 ghost use Rattle.program.specs.Field.{byteAt};
 ghost use Rattle.printout.specs.Text.{ascii, decimal, lineOf};
 ghost use Rattle.printout.specs.Line.{raw, letter, numbered, kindWords, instructionLine, refusalLine};
-ghost use Rattle.printout.specs.Writing.{Printed};
+ghost use Rattle.printout.specs.Writing.{LaidWords, Printed};
 
 // A field of the head: its byte, its name, its value.
 pub fn head_line(file: &[u8], at: usize, name: &[u8], out: &mut [u8]) -> usize
@@ -34,14 +35,23 @@ pub fn variables_line(file: &[u8], variables: usize, out: &mut [u8]) -> usize
     short_at(out, next, variables, b'\n')
 }
 
+// The raw fields of the variable record at an offset.
+fn record_fields(file: &[u8], at: usize, out: &mut [u8]) -> usize
+    requires { ⌜ (at + 6 ≤ length (now file)) × (15 ≤ length (now out)) ⌝ }
+    ensures { λ r. ⌜ LaidWords (raw (now (file .entry)) at 1 ∷ raw (now (file .entry)) (at + 1) 1 ∷ raw (now (file .entry)) (at + 2) 4 ∷ []) 0 (now (out .entry)) (now (out .exit)) r ⌝ }
+    ensures { λ r. ⌜ r ≡ 15 ⌝ }
+{
+    let next = raw_at(out, 0, file, at, 1, b' ');
+    let next = raw_at(out, next, file, at + 1, 1, b' ');
+    raw_at(out, next, file, at + 2, 4, b' ')
+}
+
 // Variable v, its record at an offset.
 pub fn variable_line(file: &[u8], at: usize, v: u8, kind: Kind, initial: u32, out: &mut [u8]) -> usize
     requires { ⌜ (at + 6 ≤ length (now file)) × (48 ≤ length (now out)) ⌝ }
     ensures { λ r. ⌜ Printed (lineOf (raw (now (file .entry)) at 1 ∷ raw (now (file .entry)) (at + 1) 1 ∷ raw (now (file .entry)) (at + 2) 4 ∷ numbered "v" v ∷ kindWords kind ++ decimal initial ∷ [])) (now (out .entry)) (now (out .exit)) r ⌝ }
 {
-    let next = raw_at(out, 0, file, at, 1, b' ');
-    let next = raw_at(out, next, file, at + 1, 1, b' ');
-    let next = raw_at(out, next, file, at + 2, 4, b' ');
+    let next = record_fields(file, at, out);
     let next = lettered_at(out, next, b'v', v, b' ');
     let next = kind_words(out, next, kind);
     number_at(out, next, initial as usize, b'\n')
@@ -59,15 +69,24 @@ pub fn thread_line(file: &[u8], at: usize, t: usize, count: usize, out: &mut [u8
     short_at(out, next, count, b'\n')
 }
 
+// The raw fields of the instruction at an offset.
+fn instruction_fields(file: &[u8], at: usize, out: &mut [u8]) -> usize
+    requires { ⌜ (at + 4 ≤ length (now file)) × (12 ≤ length (now out)) ⌝ }
+    ensures { λ r. ⌜ LaidWords (raw (now (file .entry)) at 1 ∷ raw (now (file .entry)) (at + 1) 1 ∷ raw (now (file .entry)) (at + 2) 1 ∷ raw (now (file .entry)) (at + 3) 1 ∷ []) 0 (now (out .entry)) (now (out .exit)) r ⌝ }
+    ensures { λ r. ⌜ r ≡ 12 ⌝ }
+{
+    let next = raw_at(out, 0, file, at, 1, b' ');
+    let next = raw_at(out, next, file, at + 1, 1, b' ');
+    let next = raw_at(out, next, file, at + 2, 1, b' ');
+    raw_at(out, next, file, at + 3, 1, b' ')
+}
+
 // The instruction at a place, its bytes at an offset, with its report byte.
 pub fn instruction_line(file: &[u8], at: usize, place: usize, i: Instruction, byte: u8, out: &mut [u8]) -> usize
     requires { ⌜ (at + 4 ≤ length (now file)) × (place < 10000) × (48 ≤ length (now out)) ⌝ }
     ensures { λ r. ⌜ Printed (instructionLine (now (file .entry)) at place i byte) (now (out .entry)) (now (out .exit)) r ⌝ }
 {
-    let next = raw_at(out, 0, file, at, 1, b' ');
-    let next = raw_at(out, next, file, at + 1, 1, b' ');
-    let next = raw_at(out, next, file, at + 2, 1, b' ');
-    let next = raw_at(out, next, file, at + 3, 1, b' ');
+    let next = instruction_fields(file, at, out);
     let next = short_at(out, next, place, b' ');
     let next = instruction_words(out, next, i);
     letter_at(out, next, byte, b'\n')
