@@ -1,24 +1,23 @@
 -- `head_line` meets its contract. Assumes nothing.
 use native.Mathlib.Omega.{arith}
 use Rattle.printout.proofs.Stored.{line-more, line-last, printed}
-use borrow.Author.Needs.{needs}
 use Rattle.printout.proofs.line.head_line.Statement.{statement}
 use Rattle.printout.proofs.line.head_line.Tie as tie
 
 shared-slice-read-value : tie.Need-shared-slice-read-value
-shared-slice-read-value c = search needs
+shared-slice-read-value c = omega arith
 
 raw-at-requires : tie.Need-raw-at-requires
-raw-at-requires c κs = search needs
+raw-at-requires c κs = omega arith
 
 copy-at-requires : tie.Need-copy-at-requires
-copy-at-requires c κs = search needs
+copy-at-requires c κs = omega arith
 
 byte-at-requires : tie.Need-byte-at-requires
-byte-at-requires c κs = search needs
+byte-at-requires c κs = omega arith
 
 same-length : tie.Need-same-length
-same-length c = search needs
+same-length c = omega arith
 
 returns : tie.Need-returns
 returns c =

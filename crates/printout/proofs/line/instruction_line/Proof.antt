@@ -3,24 +3,23 @@ use Prim.Native.Nat.{_≤_}
 use native.Mathlib.Omega.{arith}
 use Rattle.printout.specs.Line.{instructionLine}
 use Rattle.printout.proofs.Stored.{line-several, line-with, line-last, printed}
-use borrow.Author.Needs.{needs}
 use Rattle.printout.proofs.line.instruction_line.Statement.{statement}
 use Rattle.printout.proofs.line.instruction_line.Tie as tie
 
 instruction-fields-requires : tie.Need-instruction-fields-requires
-instruction-fields-requires c κs = search needs
+instruction-fields-requires c κs = omega arith
 
 short-at-requires : tie.Need-short-at-requires
-short-at-requires c κs = search needs
+short-at-requires c κs = omega arith
 
 instruction-words-requires : tie.Need-instruction-words-requires
-instruction-words-requires c κs = search needs
+instruction-words-requires c κs = omega arith
 
 letter-at-requires : tie.Need-letter-at-requires
-letter-at-requires c κs = search needs
+letter-at-requires c κs = omega arith
 
 same-length : tie.Need-same-length
-same-length c = search needs
+same-length c = omega arith
 
 returns : tie.Need-returns
 unfolding instructionLine

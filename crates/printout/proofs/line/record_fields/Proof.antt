@@ -1,27 +1,26 @@
 -- `record_fields` meets its contract. Assumes nothing.
 use native.Mathlib.Omega.{arith}
 use Rattle.printout.proofs.Stored.{words-more, words-last}
-use borrow.Author.Needs.{needs}
 use Rattle.printout.proofs.line.record_fields.Statement.{statement}
 use Rattle.printout.proofs.line.record_fields.Tie as tie
 
 raw-at-requires : tie.Need-raw-at-requires
-raw-at-requires c κs = search needs
+raw-at-requires c κs = omega arith
 
 add-raw-at : tie.Need-add-raw-at
-add-raw-at c = search needs
+add-raw-at c = omega arith
 
 raw-at-requires-2 : tie.Need-raw-at-requires-2
-raw-at-requires-2 c κs = search needs
+raw-at-requires-2 c κs = omega arith
 
 add-raw-at-2 : tie.Need-add-raw-at-2
-add-raw-at-2 c = search needs
+add-raw-at-2 c = omega arith
 
 raw-at-requires-3 : tie.Need-raw-at-requires-3
-raw-at-requires-3 c κs = search needs
+raw-at-requires-3 c κs = omega arith
 
 same-length : tie.Need-same-length
-same-length c = search needs
+same-length c = omega arith
 
 returns : tie.Need-returns
 returns c =

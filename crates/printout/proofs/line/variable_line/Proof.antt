@@ -6,18 +6,17 @@ use Rattle.printout.specs.Line.{numbered}
 use Rattle.printout.specs.Writing.{lettered}
 use Rattle.printout.proofs.Digits.{decimal-length}
 use Rattle.printout.proofs.Stored.{line-several, line-with, line-last, printed}
-use borrow.Author.Needs.{needs}
 use Rattle.printout.proofs.line.variable_line.Statement.{statement}
 use Rattle.printout.proofs.line.variable_line.Tie as tie
 
 record-fields-requires : tie.Need-record-fields-requires
-record-fields-requires c κs = search needs
+record-fields-requires c κs = omega arith
 
 lettered-at-requires : tie.Need-lettered-at-requires
-lettered-at-requires c κs = search needs
+lettered-at-requires c κs = omega arith
 
 kind-words-requires : tie.Need-kind-words-requires
-kind-words-requires c κs = search needs
+kind-words-requires c κs = omega arith
 
 number-at-requires : tie.Need-number-at-requires
 number-at-requires c κs =
@@ -29,7 +28,7 @@ number-at-requires c κs =
     omega (arith, decimal-length 9 (start .args .initial) h, third .kind-words, second .lettered-at, first .record-fields, start .pre)
 
 same-length : tie.Need-same-length
-same-length c = search needs
+same-length c = omega arith
 
 returns : tie.Need-returns
 unfolding ascii numbered lettered

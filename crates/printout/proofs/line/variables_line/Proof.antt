@@ -1,25 +1,25 @@
 -- `variables_line` meets its contract. Assumes nothing.
+use mathlib.Core.Path.{refl}
 use native.Mathlib.Omega.{arith}
 use Rattle.printout.specs.Text.{ascii}
 use Rattle.printout.proofs.Stored.{line-more, line-last, printed}
-use borrow.Author.Needs.{needs}
 use Rattle.printout.proofs.line.variables_line.Statement.{statement}
 use Rattle.printout.proofs.line.variables_line.Tie as tie
 
 raw-at-requires : tie.Need-raw-at-requires
-raw-at-requires c κs = search needs
+raw-at-requires c κs = omega arith
 
 slice-aggregate-copy-at : tie.Need-slice-aggregate-copy-at
-slice-aggregate-copy-at c = search needs
+slice-aggregate-copy-at c = refl
 
 copy-at-requires : tie.Need-copy-at-requires
-copy-at-requires c κs = search needs
+copy-at-requires c κs = omega arith
 
 short-at-requires : tie.Need-short-at-requires
-short-at-requires c κs = search needs
+short-at-requires c κs = omega arith
 
 same-length : tie.Need-same-length
-same-length c = search needs
+same-length c = omega arith
 
 returns : tie.Need-returns
 unfolding ascii

@@ -1,25 +1,25 @@
 -- `whole_line` meets its contract. Assumes nothing.
+use mathlib.Core.Path.{refl}
 use native.Mathlib.Omega.{arith}
 use Rattle.printout.specs.Text.{ascii}
 use Rattle.printout.proofs.Stored.{line-more, line-last, printed}
-use borrow.Author.Needs.{needs}
 use Rattle.printout.proofs.line.whole_line.Statement.{statement}
 use Rattle.printout.proofs.line.whole_line.Tie as tie
 
 slice-aggregate-copy-at : tie.Need-slice-aggregate-copy-at
-slice-aggregate-copy-at c = search needs
+slice-aggregate-copy-at c = refl
 
 copy-at-requires : tie.Need-copy-at-requires
-copy-at-requires c κs = search needs
+copy-at-requires c κs = omega arith
 
 short-at-requires : tie.Need-short-at-requires
-short-at-requires c κs = search needs
+short-at-requires c κs = omega arith
 
 letter-at-requires : tie.Need-letter-at-requires
-letter-at-requires c κs = search needs
+letter-at-requires c κs = omega arith
 
 same-length : tie.Need-same-length
-same-length c = search needs
+same-length c = omega arith
 
 returns : tie.Need-returns
 unfolding ascii

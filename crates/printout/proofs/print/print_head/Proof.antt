@@ -1,57 +1,56 @@
 -- `print_head` meets its contract. Assumes nothing.
-use mathlib.Core.Path.{_≡_}
+use mathlib.Core.Path.{refl, _≡_}
 use native.Mathlib.Omega.{arith}
 use Rattle.printout.specs.Text.{ascii}
 use Rattle.printout.specs.Line.{headLine}
 use Rattle.printout.specs.Item.{headLines}
-use borrow.Author.Needs.{needs}
 use Rattle.printout.proofs.print.print_head.Statement.{statement}
 use Rattle.printout.proofs.print.print_head.Tie as tie
 
 slice-aggregate-head-line : tie.Need-slice-aggregate-head-line
-slice-aggregate-head-line c = search needs
+slice-aggregate-head-line c = refl
 
 head-line-requires : tie.Need-head-line-requires
-head-line-requires c κs = search needs
+head-line-requires c κs = omega arith
 
 slice-aggregate-head-line-2 : tie.Need-slice-aggregate-head-line-2
-slice-aggregate-head-line-2 c = search needs
+slice-aggregate-head-line-2 c = refl
 
 head-line-requires-2 : tie.Need-head-line-requires-2
-head-line-requires-2 c κs = search needs
+head-line-requires-2 c κs = omega arith
 
 slice-aggregate-head-line-3 : tie.Need-slice-aggregate-head-line-3
-slice-aggregate-head-line-3 c = search needs
+slice-aggregate-head-line-3 c = refl
 
 head-line-requires-3 : tie.Need-head-line-requires-3
-head-line-requires-3 c κs = search needs
+head-line-requires-3 c κs = omega arith
 
 variables-line-requires : tie.Need-variables-line-requires
-variables-line-requires c κs = search needs
+variables-line-requires c κs = omega arith
 
 same-length : tie.Need-same-length
-same-length c = search needs
+same-length c = omega arith
 
 returns : tie.Need-returns
 unfolding headLines headLine ascii
 returns c = rw (c .before .before .before .before .before .match .keys1) (c .before .before .head-line .ensures)
 
 same-length-2 : tie.Need-same-length-2
-same-length-2 c = search needs
+same-length-2 c = omega arith
 
 returns-2 : tie.Need-returns-2
 unfolding headLines headLine ascii
 returns-2 c = rw (c .before .before .before .before .before .match .keys2) (c .before .before .head-line2 .ensures)
 
 same-length-3 : tie.Need-same-length-3
-same-length-3 c = search needs
+same-length-3 c = omega arith
 
 returns-3 : tie.Need-returns-3
 unfolding headLines headLine ascii
 returns-3 c = rw (c .before .before .before .before .before .match .keys3) (c .before .before .head-line3 .ensures)
 
 same-length-4 : tie.Need-same-length-4
-same-length-4 c = search needs
+same-length-4 c = omega arith
 
 returns-4 : tie.Need-returns-4
 unfolding headLines

@@ -51,7 +51,7 @@ whole-byte-requires c κs =
     (start .pre .0, good)
 
 shared-slice-read-whole-line : tie.Need-shared-slice-read-whole-line
-shared-slice-read-whole-line c = search needs
+shared-slice-read-whole-line c = omega arith
 
 whole-line-requires : tie.Need-whole-line-requires
 whole-line-requires c κs =
@@ -60,21 +60,21 @@ whole-line-requires c κs =
     (omega (arith, good, start .pre .0 .threads), start .pre .3)
 
 same-length : tie.Need-same-length
-same-length c = search needs
+same-length c = omega arith
 
 returns : tie.Need-returns
 unfolding itemLine
 returns c = rw (c .before .before .before .before .before .before .item .given .1, ← c .before .before .before .before .code-count .ensures) (c .before .before .thread-line .ensures)
 
 same-length-2 : tie.Need-same-length-2
-same-length-2 c = search needs
+same-length-2 c = omega arith
 
 returns-2 : tie.Need-returns-2
 unfolding itemLine
 returns-2 c = rw (c .before .before .before .before .before .before .before .item2 .given .1, ← c .before .before .before .before .before .instruction-at .ensures) (c .before .before .instruction-line .ensures)
 
 same-length-3 : tie.Need-same-length-3
-same-length-3 c = search needs
+same-length-3 c = omega arith
 
 returns-3 : tie.Need-returns-3
 unfolding itemLine wholeLine

@@ -9,7 +9,6 @@ use Rattle.printout.specs.Line.{lines}
 use Rattle.program.proofs.Sound.{sound-file}
 use Rattle.printout.proofs.Stored.{printed-same}
 use Rattle.printout.proofs.Parts.{line-head, line-variable, line-item}
-use borrow.Author.Needs.{needs}
 use Rattle.printout.proofs.print.write_line.Statement.{statement}
 use Rattle.printout.proofs.print.write_line.Tie as tie
 
@@ -20,7 +19,7 @@ print-head-requires c κs =
     (omega (arith, sound .section), sound .variables, c .before .if1 .taken, start .pre .3)
 
 same-length : tie.Need-same-length
-same-length c = search needs
+same-length c = omega arith
 
 returns : tie.Need-returns
 returns c =
@@ -36,7 +35,7 @@ print-variable-requires c κs =
     (sound, c .before .if2 .taken, start .pre .3)
 
 same-length-2 : tie.Need-same-length-2
-same-length-2 c = search needs
+same-length-2 c = omega arith
 
 returns-2 : tie.Need-returns-2
 returns-2 c =
@@ -59,7 +58,7 @@ print-item-requires c κs =
     (sound, start .pre .1, c .before .item-at .ensures .1, start .pre .3)
 
 same-length-3 : tie.Need-same-length-3
-same-length-3 c = search needs
+same-length-3 c = omega arith
 
 returns-3 : tie.Need-returns-3
 returns-3 c =

@@ -1,15 +1,15 @@
 -- `hex_digit` meets its contract. Assumes nothing.
-use borrow.Author.Needs.{needs}
+use native.Mathlib.Omega.{arith}
 use borrow.Author.Tests.{lt-ltb, le-ltb}
 use Rattle.printout.specs.Text.{hexDigit}
 use Rattle.printout.proofs.text.hex_digit.Statement.{statement}
 use Rattle.printout.proofs.text.hex_digit.Tie as tie
 
 add-result : tie.Need-add-result
-add-result c = search needs
+add-result c = omega arith
 
 add-result-2 : tie.Need-add-result-2
-add-result-2 c = search needs
+add-result-2 c = omega arith
 
 returns : tie.Need-returns
 unfolding hexDigit

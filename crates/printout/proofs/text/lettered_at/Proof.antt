@@ -4,7 +4,6 @@ use lib.ListN.{length-set}
 use Rattle.printout.specs.Writing.{lettered}
 use Rattle.printout.proofs.Stored.{word-first}
 use Rattle.printout.proofs.Digits.{decimal-length}
-use borrow.Author.Needs.{needs}
 use Rattle.printout.proofs.text.lettered_at.Statement.{statement}
 use Rattle.printout.proofs.text.lettered_at.Tie as tie
 use Rattle.printout.proofs.text.lettered_at.Reads as reads
@@ -13,11 +12,11 @@ use Rattle.printout.proofs.text.number_at.Reads as number-at-reads
 
 -- src/text.rt:90:5
 slice-write-out : tie.Need-slice-write-out
-slice-write-out c = search needs
+slice-write-out c = omega arith
 
 -- src/text.rt:91:20
 add-number-at : tie.Need-add-number-at
-add-number-at c = search needs
+add-number-at c = omega arith
 
 -- src/text.rt:91:5
 number-at-requires : tie.Need-number-at-requires

@@ -1,7 +1,8 @@
+use lib.ListN.{length-set}
+use native.Mathlib.Omega.{arith}
 use mathlib.Core.Path.{ap}
 use Prim.Native.Nat.{ℕ, _+_}
 use Rattle.printout.proofs.Stored.{word-ended}
-use borrow.Author.Needs.{needs}
 use Rattle.printout.proofs.text.number_at.Statement.{statement}
 use Rattle.printout.proofs.text.number_at.Tie as tie
 use Rattle.printout.proofs.text.number_at.Reads as reads
@@ -10,19 +11,19 @@ use Rattle.printout.proofs.text.digits_at.Reads as digits-at-reads
 
 -- src/text.rt:79:9
 digits-at-requires : tie.Need-digits-at-requires
-digits-at-requires c κs = search needs
+digits-at-requires c κs = omega arith
 
 -- src/text.rt:80:5
 slice-write-out : tie.Need-slice-write-out
-slice-write-out c = search needs
+slice-write-out c = omega arith
 
 -- src/text.rt:81:5
 add-result : tie.Need-add-result
-add-result c = search needs
+add-result c = omega arith
 
 -- src/text.rt:74:1
 same-length : tie.Need-same-length
-same-length c = search needs
+same-length c = simp length-set (c .before .before .digits-at .kept .0)
 
 -- src/text.rt:74:1
 returns : tie.Need-returns

@@ -2,7 +2,6 @@
 use Prim.Native.Nat.{_<_, _^_}
 use native.Mathlib.Omega.{arith}
 use Rattle.printout.proofs.Digits.{decimal-length}
-use borrow.Author.Needs.{needs}
 use Rattle.printout.proofs.text.short_at.Statement.{statement}
 use Rattle.printout.proofs.text.short_at.Tie as tie
 
@@ -13,7 +12,7 @@ number-at-requires c κs =
     omega (arith, decimal-length 4 n h)
 
 same-length : tie.Need-same-length
-same-length c = search needs
+same-length c = omega arith
 
 returns : tie.Need-returns
 returns c =

@@ -1,4 +1,5 @@
 -- `kind_words` meets its contract: an arm has the kind that its pattern names. Assumes nothing.
+use mathlib.Core.Path.{refl}
 use native.Mathlib.Omega.{arith}
 use Rattle.printout.specs.Text.{ascii}
 use Rattle.printout.specs.Line.{kindWords, numbered}
@@ -12,61 +13,61 @@ enum-known-kind : tie.Need-enum-known-kind
 enum-known-kind c = search needs
 
 slice-aggregate-name-lettered : tie.Need-slice-aggregate-name-lettered
-slice-aggregate-name-lettered c = search needs
+slice-aggregate-name-lettered c = refl
 
 name-lettered-requires : tie.Need-name-lettered-requires
-name-lettered-requires c κs = search needs
+name-lettered-requires c κs = omega arith
 
 enum-known-kind-2 : tie.Need-enum-known-kind-2
 enum-known-kind-2 c = search needs
 
 slice-aggregate-name-lettered-2 : tie.Need-slice-aggregate-name-lettered-2
-slice-aggregate-name-lettered-2 c = search needs
+slice-aggregate-name-lettered-2 c = refl
 
 name-lettered-requires-2 : tie.Need-name-lettered-requires-2
-name-lettered-requires-2 c κs = search needs
+name-lettered-requires-2 c κs = omega arith
 
 enum-told : tie.Need-enum-told
 enum-told c = search needs
 
 slice-aggregate-copy-at : tie.Need-slice-aggregate-copy-at
-slice-aggregate-copy-at c = search needs
+slice-aggregate-copy-at c = refl
 
 copy-at-requires : tie.Need-copy-at-requires
-copy-at-requires c κs = search needs
+copy-at-requires c κs = omega arith
 
 enum-told-2 : tie.Need-enum-told-2
 enum-told-2 c = search needs
 
 slice-aggregate-copy-at-2 : tie.Need-slice-aggregate-copy-at-2
-slice-aggregate-copy-at-2 c = search needs
+slice-aggregate-copy-at-2 c = refl
 
 copy-at-requires-2 : tie.Need-copy-at-requires-2
-copy-at-requires-2 c κs = search needs
+copy-at-requires-2 c κs = omega arith
 
 same-length : tie.Need-same-length
-same-length c = search needs
+same-length c = omega arith
 
 returns : tie.Need-returns
 unfolding kindWords numbered lettered ascii
 returns c = (rw (c .before .before .before .before .before .before .kind .given .1) (c .before .before .name-lettered .ensures .0), omega arith)
 
 same-length-2 : tie.Need-same-length-2
-same-length-2 c = search needs
+same-length-2 c = omega arith
 
 returns-2 : tie.Need-returns-2
 unfolding kindWords numbered lettered ascii
 returns-2 c = (rw (c .before .before .before .before .before .before .kind2 .given .1) (c .before .before .name-lettered2 .ensures .0), omega arith)
 
 same-length-3 : tie.Need-same-length-3
-same-length-3 c = search needs
+same-length-3 c = omega arith
 
 returns-3 : tie.Need-returns-3
 unfolding kindWords numbered lettered ascii
 returns-3 c = (rw (c .before .before .before .before .before .enum-told .given .1) (words-last (c .before .before .copy-at .ensures .0)), omega arith)
 
 same-length-4 : tie.Need-same-length-4
-same-length-4 c = search needs
+same-length-4 c = omega arith
 
 returns-4 : tie.Need-returns-4
 unfolding kindWords numbered lettered ascii

@@ -1,18 +1,17 @@
 -- `name_lettered` meets its contract. Assumes nothing.
 use native.Mathlib.Omega.{arith}
 use Rattle.printout.proofs.Stored.{words-more, words-last}
-use borrow.Author.Needs.{needs}
 use Rattle.printout.proofs.words.name_lettered.Statement.{statement}
 use Rattle.printout.proofs.words.name_lettered.Tie as tie
 
 copy-at-requires : tie.Need-copy-at-requires
-copy-at-requires c κs = search needs
+copy-at-requires c κs = omega arith
 
 lettered-at-requires : tie.Need-lettered-at-requires
-lettered-at-requires c κs = search needs
+lettered-at-requires c κs = omega arith
 
 same-length : tie.Need-same-length
-same-length c = search needs
+same-length c = omega arith
 
 returns : tie.Need-returns
 returns c =

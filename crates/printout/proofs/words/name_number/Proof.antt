@@ -1,18 +1,17 @@
 -- `name_number` meets its contract. Assumes nothing.
 use native.Mathlib.Omega.{arith}
 use Rattle.printout.proofs.Stored.{words-more, words-last}
-use borrow.Author.Needs.{needs}
 use Rattle.printout.proofs.words.name_number.Statement.{statement}
 use Rattle.printout.proofs.words.name_number.Tie as tie
 
 copy-at-requires : tie.Need-copy-at-requires
-copy-at-requires c κs = search needs
+copy-at-requires c κs = omega arith
 
 short-at-requires : tie.Need-short-at-requires
-short-at-requires c κs = search needs
+short-at-requires c κs = omega arith
 
 same-length : tie.Need-same-length
-same-length c = search needs
+same-length c = omega arith
 
 returns : tie.Need-returns
 returns c =
