@@ -1,10 +1,10 @@
 -- `item_at` meets its contract. The invariant: the lines from here on, at what is left of the index, are all of them at the index. Assumes nothing.
-use mathlib.Core.Path.{_≡_, refl, sym, ap, _∙_}
+use mathlib.Core.Path.{_≡_, sym, ap, _∙_}
 use mathlib.Core.List.{List, []}
 use Prim.Native.Nat.{ℕ, suc, _+_, _-_, _*_, _≤_, _<_}
 use native.Mathlib.Nat.{sub-zero}
 use native.Mathlib.Omega.{arith}
-use lib.ListN.{length, getD}
+use lib.ListN.{getD}
 use Rattle.program.specs.Sound.{countAt}
 use Rattle.printout.specs.Item.{Walk, linesFrom, itemLines, itemLine}
 use Rattle.printout.specs.declared.print.Item.the-variants.{Code}

@@ -1,10 +1,10 @@
 -- `whole_byte` meets its contract. The invariant: the wholes from here on, at what is left of the thread number, are all of them at it. Assumes nothing.
-use mathlib.Core.Path.{_≡_, refl, sym, ap, _∙_}
+use mathlib.Core.Path.{_≡_, sym, ap, _∙_}
 use mathlib.Core.List.{List, []}
-use Prim.Native.Nat.{ℕ, suc, _+_, _-_, _*_, _≤_, _<_}
+use Prim.Native.Nat.{ℕ, suc, _+_, _-_, _≤_}
 use native.Mathlib.Nat.{sub-zero}
 use native.Mathlib.Omega.{arith}
-use lib.ListN.{length, getD}
+use lib.ListN.{getD}
 use Rattle.program.specs.Sound.{countAt}
 use Rattle.program.specs.Layout.{programOf}
 use Rattle.printout.specs.Line.{wholeLines}

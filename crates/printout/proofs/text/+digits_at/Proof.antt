@@ -26,7 +26,6 @@ abbrev digits-at-below : ℕ → In 1 digits-at-kinds.ps
 digits-at-below t =
     and 1 digits-at-kinds.ps (falls 1 digits-at-kinds.ps _<_ μ-digits-at t) digits-at.Pre
 
--- src/text.rt:65:24
 digits-at-cast-out :
     (t : ℕ) →
     digits-at-lts.Need-cast-out
@@ -35,13 +34,11 @@ digits-at-cast-out :
     digits-at.Post
 digits-at-cast-out t c = omega (arith, c .if1 .taken)
 
--- src/text.rt:65:19
 digits-at-add-out :
     (t : ℕ) →
     digits-at-lts.Need-add-out (digits-at-below t, digits-at.Post) (digits-at-at t) digits-at.Post
 digits-at-add-out t c = omega (arith, c .if1 .taken)
 
--- src/text.rt:65:9
 digits-at-slice-write-out : (t : ℕ) → digits-at-lts.Need-slice-write-out (
   digits-at-below t,
   digits-at.Post,
@@ -50,7 +47,6 @@ digits-at-slice-write-out t c =
     let a = c .before .before .args in
     omega (arith, ap length (decimal-small (a .n) (c .if1 .taken)), c .before .before .pre .1)
 
--- src/text.rt:66:16
 digits-at-add-result :
     (t : ℕ) →
     digits-at-lts.Need-add-result
@@ -61,14 +57,12 @@ digits-at-add-result t c =
     let a = c .before .before .args in
     omega (arith, ap length (decimal-small (a .n) (c .if1 .taken)), c .before .before .pre .1)
 
--- src/text.rt:66:9
 digits-at-same-length : (t : ℕ) → digits-at-lts.Need-same-length (
   digits-at-below t,
   digits-at.Post,
 ) (digits-at-at t) digits-at.Post
 digits-at-same-length t c = simp length-set
 
--- src/text.rt:66:9
 digits-at-returns :
     (t : ℕ) →
     digits-at-lts.Need-returns (digits-at-below t, digits-at.Post) (digits-at-at t) digits-at.Post
@@ -76,7 +70,6 @@ digits-at-returns t c =
     let a = c .before .before .args in
     laid-same (laid-byte (48 + a .n) (a .at) (a .out .now)) (sym (decimal-small (a .n) (c .if1 .taken))) refl
 
--- src/text.rt:68:9
 digits-at-digits-at-requires : (t : ℕ) → digits-at-lts.Need-digits-at-requires (
   digits-at-below t,
   digits-at.Post,
@@ -87,7 +80,6 @@ digits-at-digits-at-requires t c κs =
     let e : length (decimal (a .n)) ≡ length (decimal (a .n / 10)) + 1 = decimal-large-length (a .n) (c .before .if1 .left) h in
     (omega (arith, c .before .before .before .pre .0), omega (arith, c .before .before .before .pre .1))
 
--- src/text.rt:69:22
 digits-at-cast-out-2 :
     (t : ℕ) →
     digits-at-lts.Need-cast-out-2
@@ -96,7 +88,6 @@ digits-at-cast-out-2 :
     digits-at.Post
 digits-at-cast-out-2 t c = omega arith
 
--- src/text.rt:69:17
 digits-at-add-out-2 :
     (t : ℕ) →
     digits-at-lts.Need-add-out-2
@@ -105,7 +96,6 @@ digits-at-add-out-2 :
     digits-at.Post
 digits-at-add-out-2 t c = omega arith
 
--- src/text.rt:69:5
 digits-at-slice-write-out-2 : (t : ℕ) → digits-at-lts.Need-slice-write-out-2 (
   digits-at-below t,
   digits-at.Post,
@@ -116,7 +106,6 @@ digits-at-slice-write-out-2 t c =
     let e : length (decimal (a .n)) ≡ length (decimal (a .n / 10)) + 1 = decimal-large-length (a .n) (c .before .before .before .before .if1 .left) h in
     omega (arith, c .before .before .digits-at .ensures .ends, c .before .before .digits-at .kept .0, c .before .before .before .before .before .before .pre .1)
 
--- src/text.rt:70:5
 digits-at-add-result-2 : (t : ℕ) → digits-at-lts.Need-add-result-2 (
   digits-at-below t,
   digits-at.Post,
@@ -127,14 +116,12 @@ digits-at-add-result-2 t c =
     let e : length (decimal (a .n)) ≡ length (decimal (a .n / 10)) + 1 = decimal-large-length (a .n) (c .before .before .before .before .if1 .left) h in
     omega (arith, c .before .before .digits-at .ensures .ends, c .before .before .before .before .before .before .pre .1)
 
--- src/text.rt:60:1
 digits-at-same-length-2 : (t : ℕ) → digits-at-lts.Need-same-length-2 (
   digits-at-below t,
   digits-at.Post,
 ) (digits-at-at t) digits-at.Post
 digits-at-same-length-2 t c = simp length-set (c .before .before .digits-at .kept .0)
 
--- src/text.rt:60:1
 digits-at-returns-2 :
     (t : ℕ) →
     digits-at-lts.Need-returns-2

@@ -1,3 +1,4 @@
+-- `copy_at` meets its contract. The invariant: the first i bytes of the word are laid. Assumes nothing.
 use mathlib.Core.Path.{_≡_, refl}
 use Prim.Native.Nat.{_+_, _≤_, _-_}
 use native.Mathlib.Omega.{arith}
@@ -7,8 +8,6 @@ use Rattle.printout.specs.Writing.{Laid}
 use Rattle.printout.proofs.Stored.{laid-none, laid-same, laid-copied, word-ended}
 use Rattle.printout.proofs.text.copy_at.Statement.{statement}
 use Rattle.printout.proofs.text.copy_at.Tie as tie
-use Rattle.printout.proofs.text.copy_at.Reads as reads
-use Rattle.printout.proofs.text.copy_at.Lts as lts
 
 abbrev Inv-loop : tie.InvT-loop
 Inv-loop out₀ at word end i₀ out i = (i ≤ length word) × (length out ≡ length out₀) × Laid (take i word) at out₀ out (at + i)
@@ -16,58 +15,45 @@ Inv-loop out₀ at word end i₀ out i = (i ≤ length word) × (length out ≡ 
 abbrev μ-loop : tie.MeasureT-loop
 μ-loop out₀ at word end i₀ out i = length word - i
 
--- src/text.rt:17:5
 loop-holds : tie.Need-loop-holds Inv-loop μ-loop
 loop-holds c = (omega arith, refl, laid-same (laid-none (c .args .at) (c .args .out .now)) refl (omega arith))
 
--- src/text.rt:18:23
 shared-slice-read-out : tie.Need-shared-slice-read-out Inv-loop μ-loop
 shared-slice-read-out c = omega arith
 
--- src/text.rt:18:13
 add-out : tie.Need-add-out Inv-loop μ-loop
 add-out c = omega arith
 
--- src/text.rt:18:9
 slice-write-out : tie.Need-slice-write-out Inv-loop μ-loop
 slice-write-out c = omega arith
 
--- src/text.rt:19:9
 add-i : tie.Need-add-i Inv-loop μ-loop
 add-i c = omega arith
 
--- src/text.rt:17:5
 loop-less : tie.Need-loop-less Inv-loop μ-loop
 loop-less c = omega arith
 
--- src/text.rt:17:5
 loop-again : tie.Need-loop-again Inv-loop μ-loop
 loop-again c =
     let l = c .before .before .loop in
     let word = c .before .before .before .args .word .now in
     (omega arith, simp length-set (omega arith), laid-copied word (l .i) (c .before .loop-test .taken) (l .inv .2))
 
--- src/text.rt:21:9
 add-out-2 : tie.Need-add-out-2 Inv-loop μ-loop
 add-out-2 c = omega arith
 
--- src/text.rt:21:5
 slice-write-out-2 : tie.Need-slice-write-out-2 Inv-loop μ-loop
 slice-write-out-2 c = omega arith
 
--- src/text.rt:22:5
 add-result : tie.Need-add-result Inv-loop μ-loop
 add-result c = omega arith
 
--- src/text.rt:22:5
 add-result-2 : tie.Need-add-result-2 Inv-loop μ-loop
 add-result-2 c = omega arith
 
--- src/text.rt:11:1
 same-length : tie.Need-same-length Inv-loop μ-loop
 same-length c = simp length-set (omega arith)
 
--- src/text.rt:11:1
 returns : tie.Need-returns Inv-loop μ-loop
 returns c =
     let l = c .before .loop in

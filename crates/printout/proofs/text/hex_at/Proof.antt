@@ -1,3 +1,4 @@
+-- `hex_at` meets its contract. Assumes nothing.
 use Prim.Native.Nat.{_+_}
 use native.Mathlib.Omega.{arith}
 use lib.ListN.{set, length-set}
@@ -5,39 +6,28 @@ use Rattle.printout.specs.Text.{hex}
 use Rattle.printout.proofs.Stored.{laid-byte, laid-same, laid-then}
 use Rattle.printout.proofs.text.hex_at.Statement.{statement}
 use Rattle.printout.proofs.text.hex_at.Tie as tie
-use Rattle.printout.proofs.text.hex_at.Reads as reads
-use Rattle.printout.proofs.text.hex_at.Lts as lts
-use Rattle.printout.proofs.text.hex_digit.Reads as hex-digit-reads
 
--- src/text.rt:38:15
 hex-digit-requires : tie.Need-hex-digit-requires
 hex-digit-requires c κs = omega arith
 
--- src/text.rt:38:5
 slice-write-out : tie.Need-slice-write-out
 slice-write-out c = omega arith
 
--- src/text.rt:39:19
 hex-digit-requires-2 : tie.Need-hex-digit-requires-2
 hex-digit-requires-2 c κs = omega arith
 
--- src/text.rt:39:9
 add-out : tie.Need-add-out
 add-out c = omega arith
 
--- src/text.rt:39:5
 slice-write-out-2 : tie.Need-slice-write-out-2
 slice-write-out-2 c = simp length-set (omega arith)
 
--- src/text.rt:40:5
 add-result : tie.Need-add-result
 add-result c = omega arith
 
--- src/text.rt:34:1
 same-length : tie.Need-same-length
 same-length c = simp length-set
 
--- src/text.rt:34:1
 returns : tie.Need-returns
 unfolding hex
 returns c =

@@ -1,3 +1,4 @@
+-- `lettered_at` meets its contract: a byte has at most three digits. Assumes nothing.
 use Prim.Native.Nat.{_<_, _^_}
 use native.Mathlib.Omega.{arith}
 use lib.ListN.{length-set}
@@ -6,30 +7,22 @@ use Rattle.printout.proofs.Stored.{word-first}
 use Rattle.printout.proofs.Digits.{decimal-length}
 use Rattle.printout.proofs.text.lettered_at.Statement.{statement}
 use Rattle.printout.proofs.text.lettered_at.Tie as tie
-use Rattle.printout.proofs.text.lettered_at.Reads as reads
-use Rattle.printout.proofs.text.lettered_at.Lts as lts
-use Rattle.printout.proofs.text.number_at.Reads as number-at-reads
 
--- src/text.rt:90:5
 slice-write-out : tie.Need-slice-write-out
 slice-write-out c = omega arith
 
--- src/text.rt:91:20
 add-number-at : tie.Need-add-number-at
 add-number-at c = omega arith
 
--- src/text.rt:91:5
 number-at-requires : tie.Need-number-at-requires
 number-at-requires c κs =
     let n = c .before .before .args .n in
     let h : n < 10 ^ 3 = omega (arith, c .before .before .fits .n) in
     simp length-set (omega (arith, decimal-length 2 n h))
 
--- src/text.rt:85:1
 same-length : tie.Need-same-length
 same-length c = simp length-set at (c .before .before .number-at .kept .0)
 
--- src/text.rt:85:1
 returns : tie.Need-returns
 unfolding lettered
 returns c =

@@ -1,3 +1,4 @@
+-- `number_at` meets its contract. Assumes nothing.
 use lib.ListN.{length-set}
 use native.Mathlib.Omega.{arith}
 use mathlib.Core.Path.{ap}
@@ -5,27 +6,19 @@ use Prim.Native.Nat.{ℕ, _+_}
 use Rattle.printout.proofs.Stored.{word-ended}
 use Rattle.printout.proofs.text.number_at.Statement.{statement}
 use Rattle.printout.proofs.text.number_at.Tie as tie
-use Rattle.printout.proofs.text.number_at.Reads as reads
-use Rattle.printout.proofs.text.number_at.Lts as lts
-use Rattle.printout.proofs.text.digits_at.Reads as digits-at-reads
 
--- src/text.rt:79:9
 digits-at-requires : tie.Need-digits-at-requires
 digits-at-requires c κs = omega arith
 
--- src/text.rt:80:5
 slice-write-out : tie.Need-slice-write-out
 slice-write-out c = omega arith
 
--- src/text.rt:81:5
 add-result : tie.Need-add-result
 add-result c = omega arith
 
--- src/text.rt:74:1
 same-length : tie.Need-same-length
 same-length c = simp length-set (c .before .before .digits-at .kept .0)
 
--- src/text.rt:74:1
 returns : tie.Need-returns
 returns c = (word-ended (c .before .before .before .before .before .args .end) (c .before .before .digits-at .ensures), ap (λ (n : ℕ). n + 1) (c .before .before .digits-at .ensures .ends))
 

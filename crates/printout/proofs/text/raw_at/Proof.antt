@@ -1,3 +1,4 @@
+-- `raw_at` meets its contract. The invariant: the first i bytes are laid, two digits each. Assumes nothing.
 use mathlib.Core.Path.{_≡_, refl, sym, ap, _∙_}
 use Prim.Native.Nat.{_+_, _*_, _≤_, _-_}
 use native.Mathlib.Numerals.{add-one}
@@ -10,9 +11,6 @@ use Rattle.printout.proofs.Stored.{laid-none, laid-same, laid-then, wor
 use Rattle.printout.proofs.Digits.{raw-more}
 use Rattle.printout.proofs.text.raw_at.Statement.{statement}
 use Rattle.printout.proofs.text.raw_at.Tie as tie
-use Rattle.printout.proofs.text.raw_at.Reads as reads
-use Rattle.printout.proofs.text.raw_at.Lts as lts
-use Rattle.printout.proofs.text.hex_at.Reads as hex-at-reads
 
 abbrev Inv-loop : tie.InvT-loop
 Inv-loop out₀ at file from n end next₀ i₀ out next i =
@@ -21,32 +19,25 @@ Inv-loop out₀ at file from n end next₀ i₀ out next i =
 abbrev μ-loop : tie.MeasureT-loop
 μ-loop out₀ at file from n end next₀ i₀ out next i = n - i
 
--- src/text.rt:51:5
 loop-holds : tie.Need-loop-holds Inv-loop μ-loop
 unfolding raw hexes
 loop-holds c = (omega arith, refl, omega arith, laid-none (c .before .before .args .at) (c .before .before .args .out .now))
 
--- src/text.rt:52:39
 add-hex-at : tie.Need-add-hex-at Inv-loop μ-loop
 add-hex-at c = omega arith
 
--- src/text.rt:52:34
 shared-slice-read-hex-at : tie.Need-shared-slice-read-hex-at Inv-loop μ-loop
 shared-slice-read-hex-at c = omega arith
 
--- src/text.rt:52:9
 hex-at-requires : tie.Need-hex-at-requires Inv-loop μ-loop
 hex-at-requires c κs = omega arith
 
--- src/text.rt:53:9
 add-i : tie.Need-add-i Inv-loop μ-loop
 add-i c = omega arith
 
--- src/text.rt:51:5
 loop-less : tie.Need-loop-less Inv-loop μ-loop
 loop-less c = omega arith
 
--- src/text.rt:51:5
 loop-again : tie.Need-loop-again Inv-loop μ-loop
 unfolding hex
 loop-again c =
@@ -56,19 +47,15 @@ loop-again c =
     let e : h .result ≡ a .at + 2 * (l .i + 1) = omega (arith, h .ensures .ends, l .inv .2) in
     (omega arith, h .kept .0 ∙ l .inv .1, e, laid-same (laid-then (l .inv .3) (h .ensures)) (sym (ap (raw (a .file .now) (a .from)) (add-one (l .i)) ∙ raw-more (a .file .now) (a .from) (l .i) (omega arith))) refl)
 
--- src/text.rt:55:5
 slice-write-out : tie.Need-slice-write-out Inv-loop μ-loop
 slice-write-out c = omega arith
 
--- src/text.rt:56:5
 add-result : tie.Need-add-result Inv-loop μ-loop
 add-result c = omega arith
 
--- src/text.rt:44:1
 same-length : tie.Need-same-length Inv-loop μ-loop
 same-length c = simp length-set (omega arith)
 
--- src/text.rt:44:1
 returns : tie.Need-returns Inv-loop μ-loop
 returns c =
     let a = c .before .before .before .before .args in
