@@ -2,7 +2,7 @@
 // `end` is the byte that ends the word, a blank or the line's newline.
 ghost use mathlib.Core.Path.{_≡_};
 ghost use Prim.Native.Nat.{_+_, _*_, _≤_, _<_};
-ghost use lib.ListN.{length};
+ghost use lib.ListN.{length, take, drop};
 ghost use Rattle.printout.specs.Text.{hexDigit, hex, decimal};
 ghost use Rattle.printout.specs.Line.{raw, letter};
 ghost use Rattle.printout.specs.Writing.{Laid, LaidWord, lettered};
@@ -109,22 +109,27 @@ pub fn byte_at(out: &mut [u8], at: usize, n: u8, end: u8) -> usize
     short_at(out, at, n as usize, end)
 }
 
-// The letter of a report byte: "atomicity, `-` at closers".
+// One byte of a fixed text.
+fn pick_at(out: &mut [u8], at: usize, text: &[u8], i: usize, end: u8) -> usize
+    requires { ⌜ (i < length (now text)) × (at + 2 ≤ length (now out)) ⌝ }
+    ensures { λ r. ⌜ LaidWord (take 1 (drop i (now (text .entry)))) end at (now (out .entry)) (now (out .exit)) r ⌝ }
+    ensures { λ r. ⌜ r ≤ at + 2 ⌝ }
+{
+    out[at] = text[i];
+    let next = at + 1;
+    out[next] = end;
+    next + 1
+}
+
+// The letter of a report byte: "atomicity, `-` at closers". A byte above 5 has none.
 pub fn letter_at(out: &mut [u8], at: usize, byte: u8, end: u8) -> usize
     requires { ⌜ at + 2 ≤ length (now out) ⌝ }
     ensures { λ r. ⌜ LaidWord (letter byte) end at (now (out .entry)) (now (out .exit)) r ⌝ }
     ensures { λ r. ⌜ r ≤ at + 2 ⌝ }
 {
-    match byte {
-        0 => copy_at(out, at, b"-", end),
-        1 => copy_at(out, at, b"B", end),
-        2 => copy_at(out, at, b"L", end),
-        3 => copy_at(out, at, b"R", end),
-        4 => copy_at(out, at, b"A", end),
-        5 => copy_at(out, at, b"T", end),
-        _ => {
-            out[at] = end;
-            at + 1
-        }
+    if byte < 6 {
+        return pick_at(out, at, b"-BLRAT", byte as usize, end);
     }
+    out[at] = end;
+    at + 1
 }
