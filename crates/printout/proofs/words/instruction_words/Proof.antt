@@ -3,8 +3,7 @@ use mathlib.Core.Path.{refl}
 use native.Mathlib.Omega.{arith}
 use Rattle.printout.specs.Text.{ascii}
 use Rattle.printout.specs.Line.{instructionWords, numbered}
-use Rattle.printout.specs.Writing.{lettered}
-use Rattle.printout.proofs.Stored.{words-last}
+use Rattle.printout.specs.Writing.{lettered, formWords}
 use borrow.Author.Needs.{needs}
 use Rattle.printout.proofs.words.instruction_words.Statement.{statement}
 use Rattle.printout.proofs.words.instruction_words.Tie as tie
@@ -93,161 +92,143 @@ name-lettered-requires-2 c κs = omega arith
 enum-known-i-10 : tie.Need-enum-known-i-10
 enum-known-i-10 c = search needs
 
-slice-aggregate-name-register-number-2 : tie.Need-slice-aggregate-name-register-number-2
-slice-aggregate-name-register-number-2 c = refl
-
-name-register-number-requires-2 : tie.Need-name-register-number-requires-2
-name-register-number-requires-2 c κs = omega arith
+form-words-requires : tie.Need-form-words-requires
+form-words-requires c κs = omega arith
 
 enum-known-i-11 : tie.Need-enum-known-i-11
 enum-known-i-11 c = search needs
 
-slice-aggregate-name-number : tie.Need-slice-aggregate-name-number
-slice-aggregate-name-number c = refl
-
-name-number-requires : tie.Need-name-number-requires
-name-number-requires c κs = omega arith
+form-words-requires-2 : tie.Need-form-words-requires-2
+form-words-requires-2 c κs = omega arith
 
 enum-known-i-12 : tie.Need-enum-known-i-12
 enum-known-i-12 c = search needs
 
-slice-aggregate-name-register-number-3 : tie.Need-slice-aggregate-name-register-number-3
-slice-aggregate-name-register-number-3 c = refl
-
-name-register-number-requires-3 : tie.Need-name-register-number-requires-3
-name-register-number-requires-3 c κs = omega arith
+form-words-requires-3 : tie.Need-form-words-requires-3
+form-words-requires-3 c κs = omega arith
 
 enum-known-i-13 : tie.Need-enum-known-i-13
 enum-known-i-13 c = search needs
 
-slice-aggregate-name-number-2 : tie.Need-slice-aggregate-name-number-2
-slice-aggregate-name-number-2 c = refl
-
-name-number-requires-2 : tie.Need-name-number-requires-2
-name-number-requires-2 c κs = omega arith
+form-words-requires-4 : tie.Need-form-words-requires-4
+form-words-requires-4 c κs = omega arith
 
 enum-known-i-14 : tie.Need-enum-known-i-14
 enum-known-i-14 c = search needs
 
-slice-aggregate-name-number-3 : tie.Need-slice-aggregate-name-number-3
-slice-aggregate-name-number-3 c = refl
-
-name-number-requires-3 : tie.Need-name-number-requires-3
-name-number-requires-3 c κs = omega arith
+form-words-requires-5 : tie.Need-form-words-requires-5
+form-words-requires-5 c κs = omega arith
 
 enum-told : tie.Need-enum-told
 enum-told c = search needs
 
-slice-aggregate-copy-at : tie.Need-slice-aggregate-copy-at
-slice-aggregate-copy-at c = refl
-
-copy-at-requires : tie.Need-copy-at-requires
-copy-at-requires c κs = omega arith
+form-words-requires-6 : tie.Need-form-words-requires-6
+form-words-requires-6 c κs = omega arith
 
 same-length : tie.Need-same-length
-same-length c = c .before .before .name-register-number .kept .0
+same-length c = omega arith
 
 returns : tie.Need-returns
 unfolding instructionWords numbered lettered ascii
 returns c = (rw (c .before .before .before .before .before .before .i .given .1) (c .before .before .name-register-number .ensures .0), omega arith)
 
 same-length-2 : tie.Need-same-length-2
-same-length-2 c = c .before .before .name-register-lettered .kept .0
+same-length-2 c = omega arith
 
 returns-2 : tie.Need-returns-2
 unfolding instructionWords numbered lettered ascii
 returns-2 c = (rw (c .before .before .before .before .before .before .i2 .given .1) (c .before .before .name-register-lettered .ensures .0), omega arith)
 
 same-length-3 : tie.Need-same-length-3
-same-length-3 c = c .before .before .name-registers .kept .0
+same-length-3 c = omega arith
 
 returns-3 : tie.Need-returns-3
 unfolding instructionWords numbered lettered ascii
 returns-3 c = (rw (c .before .before .before .before .before .before .i3 .given .1) (c .before .before .name-registers .ensures .0), omega arith)
 
 same-length-4 : tie.Need-same-length-4
-same-length-4 c = c .before .before .name-registers2 .kept .0
+same-length-4 c = omega arith
 
 returns-4 : tie.Need-returns-4
 unfolding instructionWords numbered lettered ascii
 returns-4 c = (rw (c .before .before .before .before .before .before .i4 .given .1) (c .before .before .name-registers2 .ensures .0), omega arith)
 
 same-length-5 : tie.Need-same-length-5
-same-length-5 c = c .before .before .name-registers3 .kept .0
+same-length-5 c = omega arith
 
 returns-5 : tie.Need-returns-5
 unfolding instructionWords numbered lettered ascii
 returns-5 c = (rw (c .before .before .before .before .before .before .i5 .given .1) (c .before .before .name-registers3 .ensures .0), omega arith)
 
 same-length-6 : tie.Need-same-length-6
-same-length-6 c = c .before .before .name-register-lettered2 .kept .0
+same-length-6 c = omega arith
 
 returns-6 : tie.Need-returns-6
 unfolding instructionWords numbered lettered ascii
 returns-6 c = (rw (c .before .before .before .before .before .before .i6 .given .1) (c .before .before .name-register-lettered2 .ensures .0), omega arith)
 
 same-length-7 : tie.Need-same-length-7
-same-length-7 c = c .before .before .name-register-lettered3 .kept .0
+same-length-7 c = omega arith
 
 returns-7 : tie.Need-returns-7
 unfolding instructionWords numbered lettered ascii
 returns-7 c = (rw (c .before .before .before .before .before .before .i7 .given .1) (c .before .before .name-register-lettered3 .ensures .0), omega arith)
 
 same-length-8 : tie.Need-same-length-8
-same-length-8 c = c .before .before .name-lettered .kept .0
+same-length-8 c = omega arith
 
 returns-8 : tie.Need-returns-8
 unfolding instructionWords numbered lettered ascii
 returns-8 c = (rw (c .before .before .before .before .before .before .i8 .given .1) (c .before .before .name-lettered .ensures .0), omega arith)
 
 same-length-9 : tie.Need-same-length-9
-same-length-9 c = c .before .before .name-lettered2 .kept .0
+same-length-9 c = omega arith
 
 returns-9 : tie.Need-returns-9
 unfolding instructionWords numbered lettered ascii
 returns-9 c = (rw (c .before .before .before .before .before .before .i9 .given .1) (c .before .before .name-lettered2 .ensures .0), omega arith)
 
 same-length-10 : tie.Need-same-length-10
-same-length-10 c = c .before .before .name-register-number2 .kept .0
+same-length-10 c = omega arith
 
 returns-10 : tie.Need-returns-10
-unfolding instructionWords numbered lettered ascii
-returns-10 c = (rw (c .before .before .before .before .before .before .i10 .given .1) (c .before .before .name-register-number2 .ensures .0), omega arith)
+unfolding formWords
+returns-10 c = (rw (c .before .before .before .before .before .i10 .given .1) (c .before .before .form-words .ensures .0), omega arith)
 
 same-length-11 : tie.Need-same-length-11
-same-length-11 c = c .before .before .name-number .kept .0
+same-length-11 c = omega arith
 
 returns-11 : tie.Need-returns-11
-unfolding instructionWords numbered lettered ascii
-returns-11 c = (rw (c .before .before .before .before .before .before .i11 .given .1) (c .before .before .name-number .ensures .0), omega arith)
+unfolding formWords
+returns-11 c = (rw (c .before .before .before .before .before .i11 .given .1) (c .before .before .form-words2 .ensures .0), omega arith)
 
 same-length-12 : tie.Need-same-length-12
-same-length-12 c = c .before .before .name-register-number3 .kept .0
+same-length-12 c = omega arith
 
 returns-12 : tie.Need-returns-12
-unfolding instructionWords numbered lettered ascii
-returns-12 c = (rw (c .before .before .before .before .before .before .i12 .given .1) (c .before .before .name-register-number3 .ensures .0), omega arith)
+unfolding formWords
+returns-12 c = (rw (c .before .before .before .before .before .i12 .given .1) (c .before .before .form-words3 .ensures .0), omega arith)
 
 same-length-13 : tie.Need-same-length-13
-same-length-13 c = c .before .before .name-number2 .kept .0
+same-length-13 c = omega arith
 
 returns-13 : tie.Need-returns-13
-unfolding instructionWords numbered lettered ascii
-returns-13 c = (rw (c .before .before .before .before .before .before .i13 .given .1) (c .before .before .name-number2 .ensures .0), omega arith)
+unfolding formWords
+returns-13 c = (rw (c .before .before .before .before .before .i13 .given .1) (c .before .before .form-words4 .ensures .0), omega arith)
 
 same-length-14 : tie.Need-same-length-14
-same-length-14 c = c .before .before .name-number3 .kept .0
+same-length-14 c = omega arith
 
 returns-14 : tie.Need-returns-14
-unfolding instructionWords numbered lettered ascii
-returns-14 c = (rw (c .before .before .before .before .before .before .i14 .given .1) (c .before .before .name-number3 .ensures .0), omega arith)
+unfolding formWords
+returns-14 c = (rw (c .before .before .before .before .before .i14 .given .1) (c .before .before .form-words5 .ensures .0), omega arith)
 
 same-length-15 : tie.Need-same-length-15
-same-length-15 c = c .before .before .copy-at .kept .0
+same-length-15 c = omega arith
 
 returns-15 : tie.Need-returns-15
-unfolding instructionWords numbered lettered ascii
-returns-15 c = (rw (c .before .before .before .before .before .enum-told .given .1) (words-last (c .before .before .copy-at .ensures .0)), omega arith)
+unfolding formWords
+returns-15 c = (rw (c .before .before .before .before .enum-told .given .1) (c .before .before .form-words6 .ensures .0), omega arith)
 
 pub instruction-words-spec : {M : Type 1} → statement M
 instruction-words-spec =
@@ -281,23 +262,17 @@ instruction-words-spec =
     slice-aggregate-name-lettered-2
     name-lettered-requires-2
     enum-known-i-10
-    slice-aggregate-name-register-number-2
-    name-register-number-requires-2
+    form-words-requires
     enum-known-i-11
-    slice-aggregate-name-number
-    name-number-requires
+    form-words-requires-2
     enum-known-i-12
-    slice-aggregate-name-register-number-3
-    name-register-number-requires-3
+    form-words-requires-3
     enum-known-i-13
-    slice-aggregate-name-number-2
-    name-number-requires-2
+    form-words-requires-4
     enum-known-i-14
-    slice-aggregate-name-number-3
-    name-number-requires-3
+    form-words-requires-5
     enum-told
-    slice-aggregate-copy-at
-    copy-at-requires
+    form-words-requires-6
     same-length
     returns
     same-length-2
