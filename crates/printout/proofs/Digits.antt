@@ -54,10 +54,10 @@ digits-large k n h = rw (le-ltb n 10 h, digits)
 
 -- a number has one digit or more
 small-or-large : (n : ℕ) → (n < 10) ⊎ (10 ≤ n)
-small-or-large n = elim (decLe 10 n)
-  [ yes l ↦ inr l
+small-or-large n = elim (decLe 10 n) [
+  | yes l ↦ inr l
   | no f ↦ inl (not-le 10 n f)
-  ]
+]
 
 -- a number's tenth has a digit less
 tenth : (k n : ℕ) → n < 10 ^ suc k → n / 10 < 10 ^ k

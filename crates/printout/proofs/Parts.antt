@@ -117,12 +117,12 @@ instructions-few {s} {l} f =
 
 -- where it starts
 pub walk-start : (s : List ℕ) (l : Layout) → SoundFile s l → Walk s l 0 (5 + 6 * l .variables) 0
-walk-start s l f = record
-  { left = l .instructions
-  ; sections = rw (sub-zero (l .threads)) (f .sections)
-  ; total = rw (sub-zero (l .threads)) (omega arith)
-  ; within = omega arith
-  }
+walk-start s l f = record {
+  left = l .instructions;
+  sections = rw (sub-zero (l .threads)) (f .sections);
+  total = rw (sub-zero (l .threads)) (omega arith);
+  within = omega arith;
+}
 
 -- one thread fewer is left
 fewer : (n t : ℕ) → t < n → n - t ≡ suc (n - (t + 1))
@@ -267,9 +267,14 @@ length-thread-lines s locks variables (suc n) t at m report x =
     let code : List (List ℕ) = codeLines s (at + 2) 0 is report in
     let rest : List CodeSection = threadsAt locks variables s n (at + 2 + 4 * countAt s at) in
     let after : List ℕ = drop (length is + 1) report in
-    omega (arith, length-append code (threadLines s (suc t) rest after), length-code-lines s (at + 2) 0 is report,
+    omega (
+      arith,
+      length-append code (threadLines s (suc t) rest after),
+      length-code-lines s (at + 2) 0 is report,
       length-instructions locks variables s (countAt s at) (at + 2),
-      length-thread-lines s locks variables n (suc t) (at + 2 + 4 * countAt s at) (x .0) after (x .3), x .2)
+      length-thread-lines s locks variables n (suc t) (at + 2 + 4 * countAt s at) (x .0) after (x .3),
+      x .2,
+    )
 
 -- "line count"
 pub length-lines : (s : List ℕ) (l : Layout) (report : List ℕ) → SoundFile s l
@@ -279,6 +284,13 @@ length-lines s l report f =
     let vs : List (List ℕ) = variableLines s 0 (programOf s l .variables) in
     let ts : List (List ℕ) = threadLines s 0 (programOf s l .threads) report in
     let ws : List (List ℕ) = wholeLines 0 (programOf s l .threads) report in
-    omega (arith, ap length (lines-parts s l report), length-append vs (ts ++ ws), length-append ts ws, length-variable-part s l report,
+    omega (
+      arith,
+      ap length (lines-parts s l report),
+      length-append vs (ts ++ ws),
+      length-append ts ws,
+      length-variable-part s l report,
       length-thread-lines s (l .locks) (l .variables) (l .threads) 0 (5 + 6 * l .variables) (l .instructions) report (f .sections),
-      length-whole-lines 0 (programOf s l .threads) report, length-threads (l .locks) (l .variables) s (l .threads) (5 + 6 * l .variables))
+      length-whole-lines 0 (programOf s l .threads) report,
+      length-threads (l .locks) (l .variables) s (l .threads) (5 + 6 * l .variables),
+    )

@@ -32,10 +32,10 @@ laid-same {k = k} {l} {at} {p} {q} f e h = rw (← e, ← h) f
 
 -- what two calls write one after the other
 pub laid-then : {x y k l m : List ℕ} {at p q : ℕ} → Laid x at k l p → Laid y p l m q → Laid (x ++ y) at k m q
-laid-then {x} {y} {k} {l} {m} {at} {p} {q} f g = record
-  { stored = g .stored ∙ ap (λ (z : List ℕ). sets z p y) (f .stored) ∙ ap (λ (n : ℕ). sets (sets k at x) n y) (f .ends) ∙ sym (sets-append x k y at)
-  ; ends = omega (arith, f .ends, g .ends, length-append x y)
-  }
+laid-then {x} {y} {k} {l} {m} {at} {p} {q} f g = record {
+  stored = g .stored ∙ ap (λ (z : List ℕ). sets z p y) (f .stored) ∙ ap (λ (n : ℕ). sets (sets k at x) n y) (f .ends) ∙ sym (sets-append x k y at);
+  ends = omega (arith, f .ends, g .ends, length-append x y);
+}
 
 -- one byte more
 pub laid-more : {x k l : List ℕ} {at p : ℕ} (b : ℕ) → Laid x at k l p → Laid (x ++ b ∷ []) at k (set l p b) (p + 1)
@@ -105,10 +105,10 @@ words-last {w} f = record { laid = rw (append-nil (ended w 32)) (f .laid) }
 pub printed : {ws : List (List ℕ)} {k l : List ℕ} {q : ℕ} → q ≤ 48 → 48 ≤ length k → LaidLine ws 0 k l q → Printed (lineOf ws) k l q
 printed {ws} {k} {l} {q} h b f =
     let e : 0 + length (lineOf ws) ≡ length (lineOf ws) = omega arith in
-    record
-    { counted = f .laid .ends ∙ e
-    ; bytes = f .laid .stored ∙ sets-eq (lineOf ws) k 0 (omega (arith, f .laid .ends)) ∙ ap (λ (n : ℕ). lineOf ws ++ drop n k) e
-    ; short = h
+    record {
+      counted = f .laid .ends ∙ e;
+      bytes = f .laid .stored ∙ sets-eq (lineOf ws) k 0 (omega (arith, f .laid .ends)) ∙ ap (λ (n : ℕ). lineOf ws ++ drop n k) e;
+      short = h;
     }
 
 -- the same line, said another way

@@ -1,10 +1,18 @@
 // Each kind of line (document 01, "Line and bench"), written from the start of a lent buffer of 48 bytes or more.
-use crate::text::{byte_at, copy_at, letter_at, lettered_at, number_at, raw_at, short_at};
-use crate::words::{instruction_words, kind_words};
-use crate::refusal::{detail, number};
+use crate::refusal::detail;
+use crate::refusal::number;
+use crate::text::byte_at;
+use crate::text::copy_at;
+use crate::text::letter_at;
+use crate::text::lettered_at;
+use crate::text::number_at;
+use crate::text::raw_at;
+use crate::text::short_at;
+use crate::words::instruction_words;
+use crate::words::kind_words;
 use program::instruction::Instruction;
-use program::variable::Kind;
 use program::refusal::Refusal;
+use program::variable::Kind;
 ghost use mathlib.Core.Path.{_≡_};
 ghost use mathlib.Core.List.{[], _∷_, _++_};
 ghost use Prim.Native.Nat.{_+_, _*_, _≤_, _<_};
@@ -47,7 +55,14 @@ fn record_fields(file: &[u8], at: usize, out: &mut [u8]) -> usize
 }
 
 // Variable v, its record at an offset.
-pub fn variable_line(file: &[u8], at: usize, v: u8, kind: Kind, initial: u32, out: &mut [u8]) -> usize
+pub fn variable_line(
+    file: &[u8],
+    at: usize,
+    v: u8,
+    kind: Kind,
+    initial: u32,
+    out: &mut [u8],
+) -> usize
     requires { ⌜ (at + 6 ≤ length (now file)) × (48 ≤ length (now out)) ⌝ }
     ensures { λ r. ⌜ Printed (lineOf (raw (now (file .entry)) at 1 ∷ raw (now (file .entry)) (at + 1) 1 ∷ raw (now (file .entry)) (at + 2) 4 ∷ numbered "v" v ∷ kindWords kind ++ decimal initial ∷ [])) (now (out .entry)) (now (out .exit)) r ⌝ }
 {
@@ -82,7 +97,14 @@ fn instruction_fields(file: &[u8], at: usize, out: &mut [u8]) -> usize
 }
 
 // The instruction at a place, its bytes at an offset, with its report byte.
-pub fn instruction_line(file: &[u8], at: usize, place: usize, i: Instruction, byte: u8, out: &mut [u8]) -> usize
+pub fn instruction_line(
+    file: &[u8],
+    at: usize,
+    place: usize,
+    i: Instruction,
+    byte: u8,
+    out: &mut [u8],
+) -> usize
     requires { ⌜ (at + 4 ≤ length (now file)) × (place < 10000) × (48 ≤ length (now out)) ⌝ }
     ensures { λ r. ⌜ Printed (instructionLine (now (file .entry)) at place i byte) (now (out .entry)) (now (out .exit)) r ⌝ }
 {

@@ -1,9 +1,16 @@
 // Line i of the printout of a sound file (document 01, "Line and bench"), found by counting: four lines for the head, one for each
 // variable, then for each thread one and its code's, then one for each thread's whole.
-use crate::line::{head_line, instruction_line, thread_line, variable_line, variables_line, whole_line};
+use crate::line::head_line;
+use crate::line::instruction_line;
+use crate::line::thread_line;
+use crate::line::variable_line;
+use crate::line::variables_line;
+use crate::line::whole_line;
 use program::instruction::instruction_at;
-use program::layout::{Layout, code_count};
-use program::variable::{initial_at, kind_at};
+use program::layout::Layout;
+use program::layout::code_count;
+use program::variable::initial_at;
+use program::variable::kind_at;
 ghost use mathlib.Core.Path.{_≡_};
 ghost use mathlib.Core.List.{List, [], _∷_, _++_};
 ghost use Prim.Native.Nat.{ℕ, _+_, _*_, _≤_, _<_};

@@ -1,6 +1,9 @@
 // The words of a kind and of an instruction, each with a blank after it. Instructions whose fields have the same shape share a function.
-use crate::text::{copy_at, lettered_at, short_at};
-use program::instruction::{Form, Instruction};
+use crate::text::copy_at;
+use crate::text::lettered_at;
+use crate::text::short_at;
+use program::instruction::Form;
+use program::instruction::Instruction;
 use program::variable::Kind;
 ghost use mathlib.Core.List.{[], _∷_};
 ghost use Prim.Native.Nat.{_+_, _≤_};

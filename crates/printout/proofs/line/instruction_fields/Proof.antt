@@ -33,10 +33,11 @@ returns c =
     let fourth = c .before .before in
     let third = fourth .before .before .before .before in
     let second = third .before .before .before .before in
-    let first = second .before .before .before .before in
-    (words-more (first .raw-at .ensures .0)
-     (words-more (second .raw-at2 .ensures .0) (words-more (third .raw-at3 .ensures .0) (words-last (fourth .raw-at4 .ensures .0)))),
-     omega (arith, first .raw-at .ensures .1, second .raw-at2 .ensures .1, third .raw-at3 .ensures .1, fourth .raw-at4 .ensures .1))
+    let first = second .before .before .before .before in (
+      words-more (first .raw-at .ensures .0)
+          (words-more (second .raw-at2 .ensures .0) (words-more (third .raw-at3 .ensures .0) (words-last (fourth .raw-at4 .ensures .0)))),
+      omega (arith, first .raw-at .ensures .1, second .raw-at2 .ensures .1, third .raw-at3 .ensures .1, fourth .raw-at4 .ensures .1),
+    )
 
 pub instruction-fields-spec : {M : Type 1} → statement M
 instruction-fields-spec =

@@ -26,9 +26,10 @@ returns : tie.Need-returns
 returns c =
     let third = c .before .before in
     let second = third .before .before .before .before in
-    let first = second .before .before .before .before in
-    (words-more (first .raw-at .ensures .0) (words-more (second .raw-at2 .ensures .0) (words-last (third .raw-at3 .ensures .0))),
-     omega (arith, first .raw-at .ensures .1, second .raw-at2 .ensures .1, third .raw-at3 .ensures .1))
+    let first = second .before .before .before .before in (
+      words-more (first .raw-at .ensures .0) (words-more (second .raw-at2 .ensures .0) (words-last (third .raw-at3 .ensures .0))),
+      omega (arith, first .raw-at .ensures .1, second .raw-at2 .ensures .1, third .raw-at3 .ensures .1),
+    )
 
 pub record-fields-spec : {M : Type 1} → statement M
 record-fields-spec =

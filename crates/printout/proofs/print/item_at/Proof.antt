@@ -53,12 +53,13 @@ returns c =
     let h = c .before .before .if1 .taken in
     let w = l .inv .0 in
     let section = walk-here w h in
-    let count = c .before .code-count in
-    (λ report.
-     sym (lines-here (a .file .now) (a .l) report (l .t) (l .at) (l .from) h)
-     ∙ ap (λ (n : ℕ). getD (linesFrom (a .file .now) (a .l) report (l .t) (l .at) (l .from)) n []) (sym (c .if2 .taken))
-     ∙ l .inv .2 report,
-     (omega (arith, sound .threads), section .head, section .few))
+    let count = c .before .code-count in (
+      λ report.
+          sym (lines-here (a .file .now) (a .l) report (l .t) (l .at) (l .from) h)
+          ∙ ap (λ (n : ℕ). getD (linesFrom (a .file .now) (a .l) report (l .t) (l .at) (l .from)) n []) (sym (c .if2 .taken))
+          ∙ l .inv .2 report,
+      (omega (arith, sound .threads), section .head, section .few),
+    )
 
 sub-place : tie.Need-sub-place Inv-loop μ-loop
 sub-place c = omega (arith, c .before .if2 .left)
@@ -111,13 +112,14 @@ returns-2 c =
     let place : ℕ = a .i - l .from - 1 in
     let b : place < countAt (a .file .now) (l .at) = omega (arith, c .if3 .taken, c .before .if2 .left, count .ensures) in
     let e : a .i - l .from ≡ suc place = omega (arith, c .before .if2 .left) in
-    let r : a .i - 1 ≡ l .from + place = omega (arith, c .before .if2 .left, l .inv .1) in
-    (λ report.
-     ap (λ (n : ℕ). itemLine (a .file .now) (a .l) report (Code (l .at + 2 + 4 * place) place n)) r
-     ∙ sym (lines-code (a .file .now) (a .l) report (l .t) (l .at) (l .from) h place b)
-     ∙ ap (λ (n : ℕ). getD (linesFrom (a .file .now) (a .l) report (l .t) (l .at) (l .from)) n []) (sym e)
-     ∙ l .inv .2 report,
-     (omega (arith, section .whole, b), omega (arith, section .few, b), omega (arith, walk-room w h, r, b)))
+    let r : a .i - 1 ≡ l .from + place = omega (arith, c .before .if2 .left, l .inv .1) in (
+      λ report.
+          ap (λ (n : ℕ). itemLine (a .file .now) (a .l) report (Code (l .at + 2 + 4 * place) place n)) r
+          ∙ sym (lines-code (a .file .now) (a .l) report (l .t) (l .at) (l .from) h place b)
+          ∙ ap (λ (n : ℕ). getD (linesFrom (a .file .now) (a .l) report (l .t) (l .at) (l .from)) n []) (sym e)
+          ∙ l .inv .2 report,
+      (omega (arith, section .whole, b), omega (arith, section .few, b), omega (arith, walk-room w h, r, b)),
+    )
 
 add-from : tie.Need-add-from Inv-loop μ-loop
 add-from c =
@@ -201,13 +203,14 @@ loop-again c =
     let j : ℕ = a .i - (l .from + n + 1) in
     let past : n < a .i - l .from = omega (arith, c .if3 .left, count .ensures) in
     let e : suc (n + j) ≡ a .i - l .from = omega (arith, past) in
-    rw (count .ensures)
-    (walk-next w h,
-     omega (arith, past),
-     λ report.
-     sym (lines-next (a .file .now) (a .l) report (l .t) (l .at) (l .from) h j)
-     ∙ ap (λ (m : ℕ). getD (linesFrom (a .file .now) (a .l) report (l .t) (l .at) (l .from)) m []) e
-     ∙ l .inv .2 report)
+    rw (count .ensures) (
+      walk-next w h,
+      omega (arith, past),
+      λ report.
+          sym (lines-next (a .file .now) (a .l) report (l .t) (l .at) (l .from) h j)
+          ∙ ap (λ (m : ℕ). getD (linesFrom (a .file .now) (a .l) report (l .t) (l .at) (l .from)) m []) e
+          ∙ l .inv .2 report,
+    )
 
 sub-t10 : tie.Need-sub-t10 Inv-loop μ-loop
 sub-t10 c = c .before .before .loop .inv .1
@@ -218,11 +221,12 @@ returns-3 c =
     let l = c .before .before .loop in
     let a = c .before .before .before .before .before .args in
     let sound = c .before .before .before .before .before .pre .0 in
-    let done = c .if1 .left in
-    (λ report.
-     ap (λ (xs : List (List ℕ)). getD xs (a .i - l .from) []) (sym (lines-done (a .file .now) (a .l) report (l .t) (l .at) (l .from) done))
-     ∙ l .inv .2 report,
-     omega (arith, walk-end (l .inv .0) done, c .before .before .before .before .before .pre .1, l .inv .1))
+    let done = c .if1 .left in (
+      λ report.
+          ap (λ (xs : List (List ℕ)). getD xs (a .i - l .from) []) (sym (lines-done (a .file .now) (a .l) report (l .t) (l .at) (l .from) done))
+          ∙ l .inv .2 report,
+      omega (arith, walk-end (l .inv .0) done, c .before .before .before .before .before .pre .1, l .inv .1),
+    )
 
 pub item-at-spec : {M : Type 1} → statement M
 item-at-spec =

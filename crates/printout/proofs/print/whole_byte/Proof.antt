@@ -64,13 +64,14 @@ returns c =
     let section = walk-here w h in
     let count = c .before .code-count in
     let e : a .t - l .u ≡ 0 = omega (arith, c .if2 .taken) in
-    rw (count .ensures)
-    (λ report.
-     ap (λ (n : ℕ). wholeLine n (l .from + countAt (a .file .now) (l .at)) report) (sym (c .if2 .taken))
-     ∙ sym (wholes-here (a .file .now) (a .l) report (l .u) (l .at) (l .from) h)
-     ∙ ap (λ (n : ℕ). getD (wholesFrom (a .file .now) (a .l) report (l .u) (l .at) (l .from)) n []) (sym e)
-     ∙ l .inv .2 report,
-     walk-room w h)
+    rw (count .ensures) (
+      λ report.
+          ap (λ (n : ℕ). wholeLine n (l .from + countAt (a .file .now) (l .at)) report) (sym (c .if2 .taken))
+          ∙ sym (wholes-here (a .file .now) (a .l) report (l .u) (l .at) (l .from) h)
+          ∙ ap (λ (n : ℕ). getD (wholesFrom (a .file .now) (a .l) report (l .u) (l .at) (l .from)) n []) (sym e)
+          ∙ l .inv .2 report,
+      walk-room w h,
+    )
 
 add-from : tie.Need-add-from Inv-loop μ-loop
 add-from c =
@@ -151,13 +152,14 @@ loop-again c =
     let section = walk-here w h in
     let count = c .before .code-count in
     let e : suc (a .t - (l .u + 1)) ≡ a .t - l .u = omega (arith, c .if2 .left, l .inv .1) in
-    rw (count .ensures)
-    (walk-next w h,
-     omega (arith, c .if2 .left, l .inv .1),
-     λ report.
-     sym (wholes-next (a .file .now) (a .l) report (l .u) (l .at) (l .from) h (a .t - (l .u + 1)))
-     ∙ ap (λ (m : ℕ). getD (wholesFrom (a .file .now) (a .l) report (l .u) (l .at) (l .from)) m []) e
-     ∙ l .inv .2 report)
+    rw (count .ensures) (
+      walk-next w h,
+      omega (arith, c .if2 .left, l .inv .1),
+      λ report.
+          sym (wholes-next (a .file .now) (a .l) report (l .u) (l .at) (l .from) h (a .t - (l .u + 1)))
+          ∙ ap (λ (m : ℕ). getD (wholesFrom (a .file .now) (a .l) report (l .u) (l .at) (l .from)) m []) e
+          ∙ l .inv .2 report,
+    )
 
 returns-2 : tie.Need-returns-2 Inv-loop μ-loop
 returns-2 c =

@@ -43,7 +43,7 @@ digits-at-slice-write-out : (t : ℕ) → digits-at-lts.Need-slice-write-out (
   digits-at-below t,
   digits-at.Post,
 ) (digits-at-at t) digits-at.Post
-digits-at-slice-write-out t c = 
+digits-at-slice-write-out t c =
     let a = c .before .before .args in
     omega (arith, ap length (decimal-small (a .n) (c .if1 .taken)), c .before .before .pre .1)
 
@@ -53,7 +53,7 @@ digits-at-add-result :
     (digits-at-below t, digits-at.Post)
     (digits-at-at t)
     digits-at.Post
-digits-at-add-result t c = 
+digits-at-add-result t c =
     let a = c .before .before .args in
     omega (arith, ap length (decimal-small (a .n) (c .if1 .taken)), c .before .before .pre .1)
 
@@ -66,7 +66,7 @@ digits-at-same-length t c = simp length-set
 digits-at-returns :
     (t : ℕ) →
     digits-at-lts.Need-returns (digits-at-below t, digits-at.Post) (digits-at-at t) digits-at.Post
-digits-at-returns t c = 
+digits-at-returns t c =
     let a = c .before .before .args in
     laid-same (laid-byte (48 + a .n) (a .at) (a .out .now)) (sym (decimal-small (a .n) (c .if1 .taken))) refl
 
@@ -74,7 +74,7 @@ digits-at-digits-at-requires : (t : ℕ) → digits-at-lts.Need-digits-at-requir
   digits-at-below t,
   digits-at.Post,
 ) (digits-at-at t) digits-at.Post
-digits-at-digits-at-requires t c κs = 
+digits-at-digits-at-requires t c κs =
     let a = c .before .before .before .args in
     let h : a .n < 10 ^ 20 = omega (arith, c .before .before .before .fits .n) in
     let e : length (decimal (a .n)) ≡ length (decimal (a .n / 10)) + 1 = decimal-large-length (a .n) (c .before .if1 .left) h in
@@ -100,7 +100,7 @@ digits-at-slice-write-out-2 : (t : ℕ) → digits-at-lts.Need-slice-write-out-2
   digits-at-below t,
   digits-at.Post,
 ) (digits-at-at t) digits-at.Post
-digits-at-slice-write-out-2 t c = 
+digits-at-slice-write-out-2 t c =
     let a = c .before .before .before .before .before .before .args in
     let h : a .n < 10 ^ 20 = omega (arith, c .before .before .before .before .before .before .fits .n) in
     let e : length (decimal (a .n)) ≡ length (decimal (a .n / 10)) + 1 = decimal-large-length (a .n) (c .before .before .before .before .if1 .left) h in
@@ -110,7 +110,7 @@ digits-at-add-result-2 : (t : ℕ) → digits-at-lts.Need-add-result-2 (
   digits-at-below t,
   digits-at.Post,
 ) (digits-at-at t) digits-at.Post
-digits-at-add-result-2 t c = 
+digits-at-add-result-2 t c =
     let a = c .before .before .before .before .before .before .args in
     let h : a .n < 10 ^ 20 = omega (arith, c .before .before .before .before .before .before .fits .n) in
     let e : length (decimal (a .n)) ≡ length (decimal (a .n / 10)) + 1 = decimal-large-length (a .n) (c .before .before .before .before .if1 .left) h in
@@ -128,7 +128,7 @@ digits-at-returns-2 :
     (digits-at-below t, digits-at.Post)
     (digits-at-at t)
     digits-at.Post
-digits-at-returns-2 t c = 
+digits-at-returns-2 t c =
     let a = c .before .before .before .before .before .before .args in
     let h : a .n < 10 ^ 20 = omega (arith, c .before .before .before .before .before .before .fits .n) in
     laid-same (laid-more (48 + a .n % 10) (c .before .before .digits-at .ensures)) (sym (decimal-large (a .n) (c .before .before .before .before .if1 .left) h)) refl
