@@ -28,10 +28,10 @@ hexes (b ∷ bs) = hex b ++ hexes bs
 -- a number in decimal, of at most k digits
 unfoldable pub digits : ℕ → ℕ → List ℕ
 digits zero n = []
-digits (suc k) n = elim (ltb n 10)
-  [ false ↦ digits k (n / 10) ++ (48 + n % 10) ∷ []
+digits (suc k) n = elim (ltb n 10) [
+  | false ↦ digits k (n / 10) ++ (48 + n % 10) ∷ []
   | true ↦ (48 + n) ∷ []
-  ]
+]
 
 unfoldable pub decimal : ℕ → List ℕ
 decimal n = digits 20 n

@@ -1,0 +1,97 @@
+-- Laws of hexadecimal and decimal digits: one digit more, and how many there are.
+-- Assumes nothing.
+use mathlib.Core.Path.{_≡_, refl, sym, ap, _∙_}
+use mathlib.Core.Logic.{_⊎_, inl, inr, ⊎-elim}
+use mathlib.Core.Bool.{Bool, true, false}
+use mathlib.Core.List.{List, [], _∷_, _++_, append-assoc, append-nil}
+use Prim.Native.Nat.{ℕ, zero, suc, _+_, _*_, _/_, _%_, _^_, _≤_, _<_}
+use native.Mathlib.Omega.{arith, not-le}
+use native.Mathlib.Nat.{div-lt-iff-lt-mul, pow-suc}
+use lib.ListN.{length, getD, take, drop, length-append, length-drop}
+use lib.Seq.{take-suc, getD-drop, length-take-le}
+use native.Mathlib.Decide.{decLe}
+use lib.Dec.{ltb}
+use borrow.Author.Tests.{lt-ltb, le-ltb, ltb-true, ltb-false}
+use Rattle.printout.specs.Text.{hex, hexes, digits, decimal}
+use Rattle.printout.specs.Line.{raw}
+
+-- Hexadecimal
+
+pub hexes-append : (xs ys : List ℕ) → hexes (xs ++ ys) ≡ hexes xs ++ hexes ys
+unfolding hexes
+hexes-append [] ys = refl
+hexes-append (x ∷ xs) ys = ap (λ (z : List ℕ). hex x ++ z) (hexes-append xs ys) ∙ sym (append-assoc (hex x) (hexes xs) (hexes ys))
+
+pub hexes-length : (xs : List ℕ) → length (hexes xs) ≡ 2 * length xs
+unfolding hexes hex
+hexes-length [] = refl
+hexes-length (x ∷ xs) = omega (arith, hexes-length xs)
+
+-- one raw byte more
+pub raw-more : (s : List ℕ) (from i : ℕ) → from + i < length s → raw s from (suc i) ≡ raw s from i ++ hex (getD s (from + i) 0)
+unfolding raw hexes
+raw-more s from i h =
+    ap hexes (take-suc (drop from s) i 0 (rw (length-drop from s) (omega arith)))
+    ∙ hexes-append (take i (drop from s)) (getD (drop from s) i 0 ∷ [])
+    ∙ ap (λ (z : ℕ). raw s from i ++ (hex z ++ [])) (getD-drop from s i 0)
+    ∙ ap (λ (z : List ℕ). raw s from i ++ z) (append-nil (hex (getD s (from + i) 0)))
+
+pub raw-length : (s : List ℕ) (from n : ℕ) → from + n ≤ length s → length (raw s from n) ≡ 2 * n
+unfolding raw
+raw-length s from n h = hexes-length (take n (drop from s)) ∙ ap (λ (z : ℕ). 2 * z) (length-take-le n (drop from s) (rw (length-drop from s) (omega arith)))
+
+-- Decimal
+
+-- a number of one digit
+pub digits-small : (k n : ℕ) → n < 10 → digits (suc k) n ≡ (48 + n) ∷ []
+unfolding digits
+digits-small k n h = rw (lt-ltb n 10 h, digits)
+
+-- a number of more: the last digit after those of its tenth
+pub digits-large : (k n : ℕ) → 10 ≤ n → digits (suc k) n ≡ digits k (n / 10) ++ (48 + n % 10) ∷ []
+unfolding digits
+digits-large k n h = rw (le-ltb n 10 h, digits)
+
+-- a number has one digit or more
+small-or-large : (n : ℕ) → (n < 10) ⊎ (10 ≤ n)
+small-or-large n = elim (decLe 10 n) [
+  | yes l ↦ inr l
+  | no f ↦ inl (not-le 10 n f)
+]
+
+-- a number's tenth has a digit less
+tenth : (k n : ℕ) → n < 10 ^ suc k → n / 10 < 10 ^ k
+tenth k n h = omega (arith, pow-suc 10 k)
+
+-- room for more digits than there are changes nothing
+digits-room : (k n : ℕ) → n < 10 ^ suc k → digits (suc k) n ≡ digits (suc (suc k)) n
+digits-room zero n h = digits-small 0 n (omega (arith, pow-suc 10 0)) ∙ sym (digits-small 1 n (omega (arith, pow-suc 10 0)))
+digits-room (suc k) n h = ⊎-elim
+    (λ s. digits-small (suc k) n s ∙ sym (digits-small (suc (suc k)) n s))
+    (λ l. digits-large (suc k) n l ∙ ap (λ (z : List ℕ). z ++ (48 + n % 10) ∷ []) (digits-room k (n / 10) (tenth (suc k) n h)) ∙ sym (digits-large (suc (suc k)) n l))
+    (small-or-large n)
+
+-- how many there are
+digits-length : (m k n : ℕ) → n < 10 ^ suc k → length (digits m n) ≤ suc k
+unfolding digits
+digits-length zero k n h = omega arith
+digits-length (suc m) zero n h = rw (digits-small m n (omega (arith, pow-suc 10 0))) (omega arith)
+digits-length (suc m) (suc k) n h = ⊎-elim
+    (λ s. rw (digits-small m n s) (omega arith))
+    (λ l. rw (digits-large m n l, length-append (digits m (n / 10)) ((48 + n % 10) ∷ [])) (omega (arith, digits-length m k (n / 10) (tenth (suc k) n h))))
+    (small-or-large n)
+
+pub decimal-length : (k n : ℕ) → n < 10 ^ suc k → length (decimal n) ≤ suc k
+unfolding decimal
+decimal-length k n h = digits-length 20 k n h
+
+pub decimal-small : (n : ℕ) → n < 10 → decimal n ≡ (48 + n) ∷ []
+unfolding decimal
+decimal-small n h = digits-small 19 n h
+
+pub decimal-large : (n : ℕ) → 10 ≤ n → n < 10 ^ 20 → decimal n ≡ decimal (n / 10) ++ (48 + n % 10) ∷ []
+unfolding decimal
+decimal-large n l h = digits-large 19 n l ∙ ap (λ (z : List ℕ). z ++ (48 + n % 10) ∷ []) (digits-room 18 (n / 10) (tenth 19 n h))
+
+pub decimal-large-length : (n : ℕ) → 10 ≤ n → n < 10 ^ 20 → length (decimal n) ≡ length (decimal (n / 10)) + 1
+decimal-large-length n l h = ap length (decimal-large n l h) ∙ length-append (decimal (n / 10)) ((48 + n % 10) ∷ [])

@@ -1,0 +1,23 @@
+-- `name_number` meets its contract. Assumes nothing.
+use native.Mathlib.Omega.{arith}
+use Rattle.printout.proofs.Stored.{words-more, words-last}
+use Rattle.printout.proofs.words.name_number.Statement.{statement}
+use Rattle.printout.proofs.words.name_number.Tie as tie
+
+copy-at-requires : tie.Need-copy-at-requires
+copy-at-requires c κs = omega arith
+
+short-at-requires : tie.Need-short-at-requires
+short-at-requires c κs = omega arith
+
+same-length : tie.Need-same-length
+same-length c = omega arith
+
+returns : tie.Need-returns
+returns c =
+    let second = c .before .before in
+    let first = second .before .before .before .before in
+    (words-more (first .copy-at .ensures .0) (words-last (second .short-at .ensures .0)), omega arith)
+
+pub name-number-spec : {M : Type 1} → statement M
+name-number-spec = tie.close (tie.spec copy-at-requires short-at-requires same-length returns)

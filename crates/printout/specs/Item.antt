@@ -1,0 +1,59 @@
+-- The printout by its parts, as the code walks them. Internal: `proofs/Parts.antt` shows that the parts are the lines of `Line`, and no
+-- public call's contract names them.
+use Prim.Native.Nat.{ℕ, _+_, _-_, _*_, _≤_, _<_}
+use mathlib.Core.Path.{_≡_}
+use mathlib.Core.List.{List, [], _∷_, _++_}
+use lib.ListN.{length, getD, drop}
+use Rattle.program.specs.Instruction.{decodeAt, instructionOf}
+use Rattle.program.specs.Layout.{programOf, threadsAt}
+use Rattle.program.specs.Sound.{SoundSections, countAt}
+use Rattle.program.specs.declared.layout.Layout.{Layout}
+use Rattle.printout.specs.Text.{ascii, decimal, lineOf}
+use Rattle.printout.specs.Line.{raw, letter, headLine, instructionLine, threadLines, wholeLines}
+use Rattle.printout.specs.declared.print.Item.{Item}
+use Rattle.printout.specs.declared.print.Item.the-variants.{Thread, Code, Whole}
+
+-- the head's four lines
+unfoldable pub headLines : List ℕ → (variables : ℕ) → List (List ℕ)
+headLines s variables =
+    headLine s 0 "version"
+    ∷ headLine s 1 "locks"
+    ∷ headLine s 2 "threads"
+    ∷ lineOf (raw s 3 2 ∷ ascii "variables" ∷ decimal variables ∷ [])
+    ∷ []
+
+-- the lines after the variables'
+unfoldable pub itemLines : List ℕ → Layout → (report : List ℕ) → List (List ℕ)
+itemLines s l report = threadLines s 0 (programOf s l .threads) report ++ wholeLines 0 (programOf s l .threads) report
+
+-- thread t's whole, its report byte at an index
+unfoldable pub wholeLine : (t from : ℕ) → (report : List ℕ) → List ℕ
+wholeLine t from report = lineOf (ascii "thread" ∷ decimal t ∷ letter (getD report from 0) ∷ [])
+
+-- one of them
+unfoldable pub itemLine : List ℕ → Layout → (report : List ℕ) → Item → List ℕ
+itemLine s l report (Thread t at) = lineOf (raw s at 2 ∷ ascii "thread" ∷ decimal t ∷ ascii "code" ∷ decimal (countAt s at) ∷ [])
+itemLine s l report (Code at place from) =
+    instructionLine s at place (instructionOf (decodeAt (l .locks) (l .variables) s at)) (getD report from 0)
+itemLine s l report (Whole t) = getD (wholeLines 0 (programOf s l .threads) report) t []
+
+-- it lies in the file, and its report byte in the report
+abbrev pub ItemGood : List ℕ → Layout → Item → Type 0
+ItemGood s l (Thread t at) = (t < 8) × (at + 2 ≤ length s) × (countAt s at ≤ 1024)
+ItemGood s l (Code at place from) = (at + 4 ≤ length s) × (place < 1024) × (from < l .instructions + l .threads)
+ItemGood s l (Whole t) = t < l .threads
+
+-- a walk over the code sections stands at thread t, whose section's length field is at an offset, and whose report starts at an index
+pub record Walk (s : List ℕ) (l : Layout) (t at from : ℕ) : Type 0 where
+  pub left : ℕ
+  pub sections : SoundSections s (l .locks) (l .variables) (l .threads - t) at left
+  pub total : from + left + (l .threads - t) ≡ l .instructions + l .threads
+  pub within : t ≤ l .threads
+
+-- the lines from there on; the wholes' lines from there on
+unfoldable pub linesFrom : List ℕ → Layout → (report : List ℕ) → (t at from : ℕ) → List (List ℕ)
+linesFrom s l report t at from =
+    threadLines s t (threadsAt (l .locks) (l .variables) s (l .threads - t) at) (drop from report) ++ wholeLines 0 (programOf s l .threads) report
+
+unfoldable pub wholesFrom : List ℕ → Layout → (report : List ℕ) → (t at from : ℕ) → List (List ℕ)
+wholesFrom s l report t at from = wholeLines t (threadsAt (l .locks) (l .variables) s (l .threads - t) at) (drop from report)
