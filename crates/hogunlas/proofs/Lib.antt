@@ -1,7 +1,15 @@
 -- Theorems over the definitions that belong to no one function.
 --     Definitions   all definitions open
+--     Opening       what is known of an accepted file
+--     Answers       what each call answers where its code returns
+--     Running       ... of run
+--     Numbers       a refusal as C gets it
 --     Cases         document 01's starred cases
 --     Examples      worked examples, computed
 pub mod Definitions
+pub mod Opening
+pub mod Answers
+pub mod Running
+pub mod Numbers
 pub mod Cases
 pub mod Examples

@@ -1,5 +1,20 @@
-// The public calls (document 01): judge, run, line.
+// The public calls (document 01): judge, run and line. None has a `requires`: bad input is refused, and each contract equates
+// the result and the lent buffer afterwards with a definition of the whole call, refusals included (specs/Calls.antt).
+pub mod export;
+pub mod list;
+
+use judge::judging::Judging;
+use judge::judging::judge_file;
+use machine::run::run_list;
+use program::found::Found;
+use program::layout::Layout;
 use program::refusal::Refusal;
+use crate::list::first_bad_thread;
+ghost use mathlib.Core.Path.{_≡_};
+ghost use lib.ListN.{length};
+ghost use Rattle.soundness.specs.Demand.{Demand3};
+ghost use Rattle.hogunlas.specs.Opened.{OpenedFile};
+ghost use Rattle.hogunlas.specs.Calls.{judgeAnswer, judgeBuffer, judgedOf, ranOf, runAnswer, runBuffer};
 
 // What judge answers: the report's length, or the refusal.
 pub enum Judged {
@@ -17,4 +32,61 @@ pub enum Ran {
 pub enum Printed {
     Line(usize),
     Refused(Refusal),
+}
+
+// The atomicity report of a file, laid over the front of the buffer.
+pub fn judge(file: &[u8], out: &mut [u8]) -> Judged
+    ensures result { λ r. ⌜ r ≡ judgedOf (judgeAnswer (now (file .entry)) (length (now (out .entry)))) ⌝ }
+    ensures buffer { λ _. ⌜ now (out .exit) ≡ judgeBuffer (now (file .entry)) (now (out .entry)) ⌝ }
+{
+    let mut report = [0u8; 8200];
+    let judging = judge_file(file, &mut report);
+    match judging {
+        Judging::Refused(refusal) => Judged::Refused(refusal),
+        Judging::Accepted(_, n) => {
+            if out.len() < n {
+                return Judged::Refused(Refusal::ShortBuffer(n));
+            }
+            bytes::copy(&report[..n], out);
+            Judged::Report(n)
+        }
+    }
+}
+
+// An accepted file's program, run on a list: the caller's refusals in their order, then the run.
+fn run_accepted(file: &[u8], l: Layout, list: &[u8], out: &mut [u8]) -> Ran
+    requires { ⌜ OpenedFile (now file) l ⌝ }
+    ensures result { λ r. ⌜ r ≡ ranOf (runAnswer (now (file .entry)) (now (list .entry)) (length (now (out .entry)))) ⌝ }
+    ensures buffer { λ _. ⌜ now (out .exit) ≡ runBuffer (now (file .entry)) (now (list .entry)) (now (out .entry)) ⌝ }
+{
+    if 65536 < list.len() {
+        return Ran::Refused(Refusal::LongList(65536));
+    }
+    let found = first_bad_thread(list, l.threads);
+    match found {
+        Found::At(i) => Ran::Refused(Refusal::ThreadNumber(i)),
+        Found::Nowhere => {
+            let size = 4 * l.variables + l.locks + 34 * l.threads;
+            if out.len() < size {
+                return Ran::Refused(Refusal::ShortBuffer(size));
+            }
+            let counts = run_list(file, l, list, out);
+            Ran::Counts(counts.moved, counts.waiting, counts.idle)
+        }
+    }
+}
+
+// A list of thread numbers run from the start, its end state laid over the front of the buffer. The contract carries demand 3:
+// whoever calls may take each block of an accepted file as one step.
+pub fn run(file: &[u8], list: &[u8], out: &mut [u8]) -> Ran
+    ensures result { λ r. ⌜ r ≡ ranOf (runAnswer (now (file .entry)) (now (list .entry)) (length (now (out .entry)))) ⌝ }
+    ensures buffer { λ _. ⌜ now (out .exit) ≡ runBuffer (now (file .entry)) (now (list .entry)) (now (out .entry)) ⌝ }
+    ensures demand { λ _. ⌜ Demand3 (now (file .entry)) ⌝ }
+{
+    let mut report = [0u8; 8200];
+    let judging = judge_file(file, &mut report);
+    match judging {
+        Judging::Refused(refusal) => Ran::Refused(refusal),
+        Judging::Accepted(l, _) => run_accepted(file, l, list, out),
+    }
 }

@@ -2,7 +2,7 @@
 --     LockSet     lock sets
 --     Discipline  what an instruction may do, and its atomicity
 --     Judging     the rules over structured code, and the report
---     Rules       ... as derivations
+--     Rules       the rules as derivations
 --     Acceptance  sound and accepted files
 --     Judgement   what judging a file answers, and what it leaves in the report's buffer
 -- and what only the contracts of inner functions use:

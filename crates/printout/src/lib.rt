@@ -1,6 +1,5 @@
 // The printout (document 01, "Line and bench").
 pub mod line;
 pub mod print;
-pub mod refusal;
 pub mod text;
 pub mod words;

@@ -1,6 +1,6 @@
 // Each kind of line (document 01, "Line and bench"), written from the start of a lent buffer of 48 bytes or more.
-use crate::refusal::detail;
-use crate::refusal::number;
+use program::refusal::detail;
+use program::refusal::number;
 use crate::text::byte_at;
 use crate::text::copy_at;
 use crate::text::letter_at;

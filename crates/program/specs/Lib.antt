@@ -7,13 +7,10 @@
 --     Nesting      entries and named places
 --     Layout       the whole file, front to back, and its contents
 --     Code         structured code
+-- and what only proofs and inner functions use:
+--     WellFormed   trees that code is the flat writing of, and their depth
 --     Stack        the open entries as the code holds them
---     Sound        what a sound file is known to hold (for proofs)
-<<<<<<< HEAD
---     WellFormed   structured code that a file can hold (for proofs)
-=======
---     WellFormed   structured code that a file can hold; for a theorem only
->>>>>>> efc072a8aeec2d4129653caf3c894753c024e1f8
+--     Sound        what a sound file is known to hold
 pub mod Refusal
 pub mod Choice
 pub mod Field
@@ -22,6 +19,6 @@ pub mod Instruction
 pub mod Nesting
 pub mod Layout
 pub mod Code
+pub mod WellFormed
 pub mod Stack
 pub mod Sound
-pub mod WellFormed

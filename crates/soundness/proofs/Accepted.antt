@@ -26,10 +26,10 @@ use Rattle.program.specs.declared.instruction.Instruction.the-variants.{Set, Co
 use Rattle.program.specs.declared.layout.Layout.{Layout}
 use Rattle.soundness.specs.Access.{TakesBelow}
 use Rattle.soundness.specs.Instance.{Annotated}
-use Rattle.soundness.specs.Typing.{typed-done}
+use Rattle.judge.specs.Rules.{typed-done}
 use Rattle.soundness.specs.WellNested.{noSection, TakesGood, WellNested, Derived}
 use Rattle.soundness.proofs.Annotated.{annotated}
-use Rattle.soundness.proofs.Typing.{bind-fine, judge-typed}
+use Rattle.judge.proofs.Rules.{bind-inv, judge-typed}
 
 -- ---- from the file: nesting, and the locks taken
 
@@ -95,7 +95,7 @@ derived-thread : (p : Program) (t : ℕ) (section : CodeSection) {r : List ℕ} 
     → judgeThread p t section ≡ fine r → Derived p t (section .code)
 unfolding judgeThread
 derived-thread p t section w e =
-    bind-fine (judge p t (section .start) empty (structured (section .code))) _ e λ r f g.
+    bind-inv (judge p t (section .start) empty (structured (section .code))) _ e λ r f g.
     (r .locks, r .atomicity, judge-typed p t (structured (section .code)) w (section .start) empty f)
 
 derived-threads : (p : Program) (n : ℕ) (l : List CodeSection) {r : List ℕ} → judgeThreads p n l ≡ fine r
@@ -103,11 +103,11 @@ derived-threads : (p : Program) (n : ℕ) (l : List CodeSection) {r : List ℕ} 
 unfolding judgeThreads
 derived-threads p n [] e t w = derived-nothing p (n + t)
 derived-threads p n (x ∷ l) e zero w =
-    bind-fine (judgeThread p n x) _ e λ r f g.
+    bind-inv (judgeThread p n x) _ e λ r f g.
     subst (λ (m : ℕ). Derived p m (x .code)) (sym (add-zero n)) (derived-thread p n x w f)
 derived-threads p n (x ∷ l) e (suc t) w =
-    bind-fine (judgeThread p n x) _ e λ r f g.
-    bind-fine (judgeThreads p (suc n) l) _ g λ rs f′ g′.
+    bind-inv (judgeThread p n x) _ e λ r f g.
+    bind-inv (judgeThreads p (suc n) l) _ g λ rs f′ g′.
     subst (λ (m : ℕ). Derived p m (getD l t noSection .code)) (omega arith) (derived-threads p (suc n) l f′ t w)
 
 derived : (p : Program) {r : List ℕ} → judgeProgram p ≡ fine r → (t : ℕ) → WellFormed (structured (codeOf p t)) → Derived p t (codeOf p t)

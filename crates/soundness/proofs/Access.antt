@@ -14,7 +14,7 @@ use Rattle.program.specs.declared.instruction.Instruction.{Instruction}
 use Rattle.program.specs.declared.instruction.Instruction.the-variants.{Set, Copy, Add, Sub, Less, Read, Write, Take, Give, If, Else, While, Again, Atomic, End}
 use Rattle.program.specs.declared.refusal.Refusal.{Refusal}
 use Rattle.soundness.specs.Access.{Permitted, none-permitted, read-permitted, write-permitted, take-permitted, give-permitted, accessMover, setAfter}
-use Rattle.soundness.specs.Typing.{Legal}
+use Rattle.judge.specs.Rules.{Legal}
 
 -- a test that must hold, or must not
 held : {A : Type 0} (b : Bool) (x : A) (r : Refusal) {y : A} → choose b (fine x) (refused r) ≡ fine y → (b ≡ true) × (x ≡ y)

@@ -22,7 +22,7 @@ use Rattle.soundness.specs.Access.{TakesBelow}
 use Rattle.soundness.specs.Annotation.{Row, row, rows, Leads, Flows, Part}
 use Rattle.soundness.specs.Instance.{Annotated}
 use Rattle.soundness.specs.Prefix.{outer, isInner, below-outer, proper-outer}
-use Rattle.soundness.specs.Typing.{Typed}
+use Rattle.judge.specs.Rules.{Typed}
 use Rattle.soundness.proofs.Annotation.{instructionAt, length-rows, rows-flat, reads-list}
 use Rattle.soundness.proofs.Coverage.{coverage, covered-past}
 use Rattle.soundness.proofs.Flow.{flow}

@@ -21,7 +21,7 @@ use Rattle.program.specs.declared.instruction.Instruction.the-variants.{If, Els
 use Rattle.reduction.specs.Sequence.{All, all-nil, all-cons}
 use Rattle.soundness.specs.Annotation.{Row, row, rows, Reads, reads-nil, reads-cons, Span}
 use Rattle.soundness.specs.Prefix.{Prefix, behind, entered}
-use Rattle.soundness.specs.Typing.{Legal, Typed, typed-done, typed-plain, typed-choice, typed-loop, typed-block}
+use Rattle.judge.specs.Rules.{Legal, Typed, typed-done, typed-plain, typed-choice, typed-loop, typed-block}
 
 -- ---- spans
 

@@ -26,7 +26,7 @@ use Rattle.program.specs.declared.instruction.Instruction.the-variants.{If, Els
 use Rattle.reduction.specs.Sequence.{All, all-nil, all-cons}
 use Rattle.soundness.specs.Annotation.{Row, row, rows, Reads, Span}
 use Rattle.soundness.specs.Prefix.{outer, inner, isInner}
-use Rattle.soundness.specs.Typing.{Typed, typed-done, typed-plain, typed-choice, typed-loop, typed-block}
+use Rattle.judge.specs.Rules.{Typed, typed-done, typed-plain, typed-choice, typed-loop, typed-block}
 use Rattle.soundness.proofs.Annotation.{reads-plain, reads-choice, reads-loop, reads-block, reads-all, all-append, span-one, span-join, length-rows}
 
 -- ---- covered by some instruction of a list

@@ -19,7 +19,7 @@ use Rattle.soundness.specs.Order.{movesOf, SerializedInOrder, Demand3InO
 use Rattle.soundness.specs.WellNested.{WellNested}
 use Rattle.soundness.proofs.Accepted.{sound-nested, judged-annotated}
 use Rattle.soundness.proofs.Serialize.{serialized}
-use Rattle.soundness.proofs.Typing.{bind-fine}
+use Rattle.judge.proofs.Rules.{bind-inv}
 
 -- a sound file's program is that of its layout
 sound-reading : {C : Type 0} (file : List ℕ) (r : Reading) {p : Program} → programRead file r ≡ fine p
@@ -31,8 +31,8 @@ sound-reading file (Refused r) e k = absurd (let z : _≡_ {A = ℕ} 0 1 = cc in
 accepted-annotated : (file : List ℕ) (a : Accepted) → accept file ≡ fine a → (t : ℕ) → Annotated (a .program) t
 unfolding accept sound
 accepted-annotated file a e =
-    bind-fine (programRead file (reading file)) _ e λ p e₁ f₁.
-    bind-fine (judgeProgram p) _ f₁ λ report e₂ f₂.
+    bind-inv (programRead file (reading file)) _ e λ p e₁ f₁.
+    bind-inv (judgeProgram p) _ f₁ λ report e₂ f₂.
     let same : p ≡ a .program = cc in
     sound-reading file (reading file) e₁ λ l h q.
     let nested = subst WellNested (q ∙ same) (sound-nested file l (sound-file file l h)) in

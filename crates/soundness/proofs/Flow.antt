@@ -21,7 +21,7 @@ use Rattle.program.specs.declared.instruction.Instruction.{Instruction}
 use Rattle.program.specs.declared.instruction.Instruction.the-variants.{Set, Copy, Add, Sub, Less, Read, Write, Take, Give, If, Else, While, Again, Atomic, End}
 use Rattle.soundness.specs.Annotation.{Row, row, rows, Reads, Span, Follows, Leads, FlowsFrom, Flows, Part}
 use Rattle.soundness.specs.Prefix.{Prefix, behind, entered, Below, Proper}
-use Rattle.soundness.specs.Typing.{Legal, Typed, typed-done, typed-plain, typed-choice, typed-loop, typed-block}
+use Rattle.judge.specs.Rules.{Legal, Typed, typed-done, typed-plain, typed-choice, typed-loop, typed-block}
 use Rattle.soundness.proofs.Annotation.{reads-plain, reads-choice, reads-loop, reads-block, span-empty, span-one, span-join}
 use Rattle.soundness.proofs.Prefix.{behind-both, behind-behind, below-refl, below-behind, below-first, below-second, below-turn, proper-below, goes-behind, goes-in, goes-out, proper-entered}
 

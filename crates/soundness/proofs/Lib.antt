@@ -1,7 +1,6 @@
 -- Demand 3, proved.
 --
 -- From the rules to the places of the code:
---     Typing        judging finds a derivation of the rules
 --     Prefix        prefixes of blocks, and what a move's ends say of its atomicity
 --     Annotation    typed code written out flat, and read place by place
 --     Flow          wherever a thread goes, the row there follows
@@ -21,7 +20,6 @@
 --     Accepted      an accepted file's program is annotated
 --     Demand        demand 3
 --     Example       it is not empty
-pub mod Typing
 pub mod Prefix
 pub mod Annotation
 pub mod Flow

@@ -24,7 +24,7 @@ use Rattle.soundness.specs.Annotation.{Row, Follows}
 use Rattle.soundness.specs.Instance.{nextInstruction, nextAccess, nextMover, Annotated, placeOf, rowOf, Invariant}
 use Rattle.soundness.specs.Naming.{Named, moved, movedNamed}
 use Rattle.soundness.specs.Prefix.{Goes}
-use Rattle.soundness.specs.Typing.{Legal}
+use Rattle.judge.specs.Rules.{Legal}
 use Rattle.soundness.proofs.Access.{legal-permitted, legal-set}
 use Rattle.soundness.proofs.Owns.{owns-moved, owns-other}
 

@@ -13,7 +13,7 @@ use Rattle.program.specs.Layout.{Program}
 use Rattle.program.specs.declared.instruction.Instruction.{Instruction}
 use Rattle.program.specs.declared.instruction.Instruction.the-variants.{If, Else, While, Again, Atomic, End}
 use Rattle.soundness.specs.Prefix.{Prefix, behind, entered, Below, Goes}
-use Rattle.soundness.specs.Typing.{Legal, Typed, typed-done, typed-plain, typed-choice, typed-loop, typed-block}
+use Rattle.judge.specs.Rules.{Legal, Typed, typed-done, typed-plain, typed-choice, typed-loop, typed-block}
 
 -- a place
 pub record Row : Type 0 where

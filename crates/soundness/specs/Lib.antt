@@ -4,7 +4,6 @@
 --     Order        demand 3 with each thread's moves and the order of the blocks
 --     Example      a file and a list of which it says something
 -- What only the proof speaks of:
---     Typing       the rules of judging as a relation
 --     Prefix       where a place stands in its block
 --     Annotation   typed code written out flat, with lock sets and prefixes
 --     Access       an instruction by its shared access
@@ -15,7 +14,6 @@ pub mod Demand
 pub mod Naming
 pub mod Order
 pub mod Example
-pub mod Typing
 pub mod Prefix
 pub mod Annotation
 pub mod Access

@@ -13,7 +13,7 @@ use Rattle.program.specs.WellFormed.{Writes}
 use Rattle.program.specs.declared.instruction.Instruction.{Instruction}
 use Rattle.program.specs.declared.instruction.Instruction.the-variants.{End}
 use Rattle.soundness.specs.Access.{TakesBelow}
-use Rattle.soundness.specs.Typing.{Typed}
+use Rattle.judge.specs.Rules.{Typed}
 
 -- the code of a thread that the program does not have
 abbrev pub noSection : CodeSection

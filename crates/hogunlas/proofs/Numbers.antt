@@ -1,0 +1,17 @@
+-- A refusal as the numbers that C gets. Assumes nothing.
+use Prim.Native.Nat.{ℕ}
+use mathlib.Core.Path.{_≡_}
+use Rattle.program.specs.Refusal.{numberOf, detailOf}
+use Rattle.program.specs.declared.refusal.Refusal.{Refusal}
+use Rattle.hogunlas.specs.Numbers.{judgedNumbers, ranNumbers}
+use Rattle.hogunlas.specs.declared.Judged.the-variants as judged
+use Rattle.hogunlas.specs.declared.Ran.the-variants as ran
+use Rattle.hogunlas.specs.declared.export.JudgedNumbers.{JudgedNumbers}
+use Rattle.hogunlas.specs.declared.export.RanNumbers.{RanNumbers}
+
+module _ (n d : ℕ) (r : Refusal) (is-number : n ≡ numberOf r) (is-detail : d ≡ detailOf r) where
+  pub judged-refused : _≡_ {A = JudgedNumbers} (record { refusal = n; detail = d; length = 0 }) (judgedNumbers (judged.Refused r))
+  judged-refused = cc
+
+  pub ran-refused : _≡_ {A = RanNumbers} (record { refusal = n; detail = d; moved = 0; waiting = 0; idle = 0 }) (ranNumbers (ran.Refused r))
+  ran-refused = cc

@@ -1,0 +1,81 @@
+-- `run_accepted` meets its contract: each `return` is a case of the definition, in the order of the caller's refusals. Assumes nothing.
+use borrow.Author.Needs.{needs}
+use native.Mathlib.Omega.{arith}
+use mathlib.Core.Path.{sym, _∙_}
+use Rattle.hogunlas.proofs.Opening.{opened-sound}
+use Rattle.hogunlas.proofs.Running.{every-entry, run-long, run-thread, run-short, run-done}
+use Rattle.hogunlas.proofs.run_accepted.Statement.{statement}
+use Rattle.hogunlas.proofs.run_accepted.Tie as tie
+
+returns : tie.Need-returns
+returns c =
+    let start = c .before .before .before .before in
+    run-long (start .args .file .now) (start .args .list .now) (start .args .out .now) (start .args .l) (start .pre .report) (start .pre .opened) (c .if1 .taken)
+
+first-bad-thread-requires : tie.Need-first-bad-thread-requires
+first-bad-thread-requires c κs = search needs
+
+enum-known-found : tie.Need-enum-known-found
+enum-known-found c = search needs
+
+enum-told : tie.Need-enum-told
+enum-told c = search needs
+
+mul-size : tie.Need-mul-size
+mul-size c = omega (arith, opened-sound (c .before .before .before .before .before .before .before .before .pre))
+
+add-size : tie.Need-add-size
+add-size c = omega (arith, opened-sound (c .before .before .before .before .before .before .before .before .before .pre))
+
+mul-size-2 : tie.Need-mul-size-2
+mul-size-2 c = omega (arith, opened-sound (c .before .before .before .before .before .before .before .before .before .before .pre))
+
+add-size-2 : tie.Need-add-size-2
+add-size-2 c = omega (arith, opened-sound (c .before .before .before .before .before .before .before .before .before .before .pre))
+
+returns-2 : tie.Need-returns-2
+returns-2 c =
+    let start = c .before .before .before .before .before .before .before .before .before .before .before in
+    run-short (start .args .file .now) (start .args .list .now) (start .args .out .now) (start .args .l) (start .pre .report) (start .pre .opened) (c .before .before .before .before .before .before .before .if1 .left)
+    (sym (c .before .before .before .before .before .before .first-bad-thread .ensures) ∙ c .before .before .before .before .enum-told .given .1) (c .if2 .taken)
+
+run-list-requires : tie.Need-run-list-requires
+run-list-requires c κs =
+    let start = c .before .before .before .before .before .before .before .before .before .before .before .before in
+    (opened-sound (start .pre)
+    , every-entry (start .args .l) (start .args .list .now) (sym (c .before .before .before .before .before .before .before .first-bad-thread .ensures) ∙ c .before .before .before .before .before .enum-told .given .1)
+    , c .before .if2 .left)
+
+returns-3 : tie.Need-returns-3
+returns-3 c =
+    let start = c .before .before .before .before .before .before .before .before in
+    run-thread (start .args .file .now) (start .args .list .now) (start .args .out .now) (start .args .l) (start .pre .report) (start .pre .opened) (c .before .before .before .before .if1 .left) _
+    (sym (c .before .before .before .first-bad-thread .ensures) ∙ c .before .found .given .1)
+
+same-length : tie.Need-same-length
+same-length c = search needs
+
+returns-4 : tie.Need-returns-4
+returns-4 c =
+    let start = c .before .before .before .before .before .before .before .before .before .before .before .before .before .before .before in
+    run-done (start .args .file .now) (start .args .list .now) (start .args .out .now) (start .args .l) (start .pre .report) (start .pre .opened) (c .before .before .before .before .before .before .before .before .before .before .before .if1 .left)
+    (sym (c .before .before .before .before .before .before .before .before .before .before .first-bad-thread .ensures) ∙ c .before .before .before .before .before .before .before .before .enum-told .given .1)
+    (c .before .before .before .before .if2 .left) (c .before .before .run-list .result) (c .before .before .run-list .ensures .0) _ (c .before .before .run-list .ensures .1)
+
+pub run-accepted-spec : {M : Type 1} → statement M
+run-accepted-spec =
+    tie.close
+    (tie.spec
+    returns
+    first-bad-thread-requires
+    enum-known-found
+    enum-told
+    mul-size
+    add-size
+    mul-size-2
+    add-size-2
+    returns-2
+    run-list-requires
+    returns-3
+    same-length
+    returns-4)

@@ -1,0 +1,17 @@
+-- Each call's answer as the numbers that C gets (include/hogunlas.h): "Each refusal returns its number and one detail D" (document 01,
+-- "Who can bring a number about"); refusal 0 for none.
+use Rattle.program.specs.Refusal.{numberOf, detailOf}
+use Rattle.hogunlas.specs.declared.Judged.{Judged}
+use Rattle.hogunlas.specs.declared.Judged.the-variants as judged
+use Rattle.hogunlas.specs.declared.Ran.{Ran}
+use Rattle.hogunlas.specs.declared.Ran.the-variants as ran
+use Rattle.hogunlas.specs.declared.export.JudgedNumbers.{JudgedNumbers}
+use Rattle.hogunlas.specs.declared.export.RanNumbers.{RanNumbers}
+
+abbrev pub judgedNumbers : Judged → JudgedNumbers
+judgedNumbers (judged.Report n) = record { refusal = 0; detail = 0; length = n }
+judgedNumbers (judged.Refused r) = record { refusal = numberOf r; detail = detailOf r; length = 0 }
+
+abbrev pub ranNumbers : Ran → RanNumbers
+ranNumbers (ran.Counts moved waiting idle) = record { refusal = 0; detail = 0; moved = moved; waiting = waiting; idle = idle }
+ranNumbers (ran.Refused r) = record { refusal = numberOf r; detail = detailOf r; moved = 0; waiting = 0; idle = 0 }

@@ -1,0 +1,73 @@
+// The calls for C and Rust (include/hogunlas.h): answers as structs of numbers, refusal 0 for none. A slice is a pointer and a length.
+use program::refusal::detail;
+use program::refusal::number;
+use crate::Judged;
+use crate::Ran;
+use crate::judge;
+use crate::run;
+ghost use mathlib.Core.Path.{_≡_};
+ghost use lib.ListN.{length};
+ghost use Rattle.soundness.specs.Demand.{Demand3};
+ghost use Rattle.hogunlas.specs.Calls.{judgeAnswer, judgeBuffer, judgedOf, ranOf, runAnswer, runBuffer};
+ghost use Rattle.hogunlas.specs.Numbers.{judgedNumbers, ranNumbers};
+
+#[repr(C)]
+pub struct JudgedNumbers {
+    pub refusal: u32,
+    pub detail: u64,
+    pub length: u64,
+}
+
+#[repr(C)]
+pub struct RanNumbers {
+    pub refusal: u32,
+    pub detail: u64,
+    pub moved: u64,
+    pub waiting: u64,
+    pub idle: u64,
+}
+
+#[no_mangle]
+pub extern "C" fn hogunlas_judge(file: &[u8], report: &mut [u8]) -> JudgedNumbers
+    ensures result { λ r. ⌜ r ≡ judgedNumbers (judgedOf (judgeAnswer (now (file .entry)) (length (now (report .entry))))) ⌝ }
+    ensures buffer { λ _. ⌜ now (report .exit) ≡ judgeBuffer (now (file .entry)) (now (report .entry)) ⌝ }
+{
+    let judged = judge(file, report);
+    match judged {
+        Judged::Report(n) => JudgedNumbers {
+            refusal: 0,
+            detail: 0,
+            length: n as u64,
+        },
+        Judged::Refused(refusal) => JudgedNumbers {
+            refusal: number(refusal) as u32,
+            detail: detail(refusal) as u64,
+            length: 0,
+        },
+    }
+}
+
+#[no_mangle]
+pub extern "C" fn hogunlas_run(file: &[u8], list: &[u8], state: &mut [u8]) -> RanNumbers
+    ensures result { λ r. ⌜ r ≡ ranNumbers (ranOf (runAnswer (now (file .entry)) (now (list .entry)) (length (now (state .entry))))) ⌝ }
+    ensures buffer { λ _. ⌜ now (state .exit) ≡ runBuffer (now (file .entry)) (now (list .entry)) (now (state .entry)) ⌝ }
+    ensures demand { λ _. ⌜ Demand3 (now (file .entry)) ⌝ }
+{
+    let ran = run(file, list, state);
+    match ran {
+        Ran::Counts(moved, waiting, idle) => RanNumbers {
+            refusal: 0,
+            detail: 0,
+            moved: moved as u64,
+            waiting: waiting as u64,
+            idle: idle as u64,
+        },
+        Ran::Refused(refusal) => RanNumbers {
+            refusal: number(refusal) as u32,
+            detail: detail(refusal) as u64,
+            moved: 0,
+            waiting: 0,
+            idle: 0,
+        },
+    }
+}
