@@ -109,6 +109,7 @@ module _ (s : List ℕ) (l : Layout) (e : reading s ≡ Sound l) where
           ; accepts = a
           ; reads = e
           ; size = sym (n .0)
+          ; counted = refl
           ; bytes = fine-inj after (sets report 0 bytes) q ∙ sets-all report bytes (omega (arith, n .1)) ∙ ap (λ (i : ℕ). bytes ++ drop i report) (n .0)
           }
         go (refused r) n a q = fine-not-refused after r (sym q)

@@ -1,7 +1,7 @@
 -- What judging a file answers, and what it leaves in the report's buffer (document 01, "Who can bring a number about"; "Judge returns
 -- its length; later bytes are kept"). The buffer is large enough for every report; on a refusal nothing is said of its bytes, and the
 -- public calls hand none of them on.
-use Prim.Native.Nat.{ℕ}
+use Prim.Native.Nat.{ℕ, _+_}
 use mathlib.Core.Path.{_≡_}
 use mathlib.Core.List.{List, _++_}
 use lib.ListN.{length, drop}
@@ -20,6 +20,7 @@ pub record AcceptedAs (s before after : List ℕ) (l : Layout) (n : ℕ) : Type 
   pub accepts : accept s ≡ fine accepted
   pub reads : reading s ≡ reading.Sound l
   pub size : n ≡ length (accepted .report)
+  pub counted : n ≡ l .instructions + l .threads
   pub bytes : after ≡ accepted .report ++ drop n before
 
 abbrev pub Judgement : (s before after : List ℕ) → Judging → Type 0
