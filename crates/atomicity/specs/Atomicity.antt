@@ -20,29 +20,29 @@ reportByte = by 1 2 3 4 5
 abbrev pub column : Atomicity → ℕ
 column = by 0 1 2 3 4
 
--- "Composition, row first"                    B     L      R      A      T
+-- "Composition, row first": each row at B L R A T
 unfoldable pub composition : Atomicity → Atomicity → Atomicity
-composition Both =   by Both   Left   Right  Atomic Top
-composition Right =  by Right  Atomic Right  Atomic Top
-composition Left =   by Left   Left   Top    Top    Top
-composition Atomic = by Atomic Atomic Top    Top    Top
-composition Top =    by Top    Top    Top    Top    Top
+composition Both = by Both Left Right Atomic Top
+composition Right = by Right Atomic Right Atomic Top
+composition Left = by Left Left Top Top Top
+composition Atomic = by Atomic Atomic Top Top Top
+composition Top = by Top Top Top Top Top
 
 -- "Order: B below L and R, both below A, A below T": `atMost a b`, a is at or below b
 unfoldable pub atMost : Atomicity → Atomicity → Bool
-atMost Both =   by true  true  true  true  true
-atMost Left =   by false true  false true  true
-atMost Right =  by false false true  true  true
-atMost Atomic = by false false false true  true
-atMost Top =    by false false false false true
+atMost Both = by true true true true true
+atMost Left = by false true false true true
+atMost Right = by false false true true true
+atMost Atomic = by false false false true true
+atMost Top = by false false false false true
 
 -- the least atomicity at or above both: "L joined with R is A"
 unfoldable pub join : Atomicity → Atomicity → Atomicity
-join Both =   by Both   Left   Right  Atomic Top
-join Left =   by Left   Left   Atomic Atomic Top
-join Right =  by Right  Atomic Right  Atomic Top
+join Both = by Both Left Right Atomic Top
+join Left = by Left Left Atomic Atomic Top
+join Right = by Right Atomic Right Atomic Top
 join Atomic = by Atomic Atomic Atomic Atomic Top
-join Top =    by Top    Top    Top    Top    Top
+join Top = by Top Top Top Top Top
 
 -- "Closure: B, L, R, T stay; A becomes T"
 abbrev pub closure : Atomicity → Atomicity

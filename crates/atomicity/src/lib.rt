@@ -20,9 +20,13 @@ pub enum Atomicity {
 }
 
 const B: Atomicity = Atomicity::Both;
+
 const L: Atomicity = Atomicity::Left;
+
 const R: Atomicity = Atomicity::Right;
+
 const A: Atomicity = Atomicity::Atomic;
+
 const T: Atomicity = Atomicity::Top;
 
 // Rows and columns of the tables stand in the order of the report bytes, B L R A T.

@@ -22,11 +22,11 @@ use Rattle.hogunlas.specs.declared.Judged.the-variants as judged
 
 -- what judge_file says, once its answer is known
 pub as-accepted : (s before after : List ℕ) (j : Judging) {l : Layout} {n : ℕ} → j ≡ judging.Accepted l n
-  → Judgement s before after j → AcceptedAs s before after l n
+    → Judgement s before after j → AcceptedAs s before after l n
 as-accepted s before after j e h = subst (Judgement s before after) e h
 
 pub as-refused : (s before after : List ℕ) (j : Judging) {r : Refusal} → j ≡ judging.Refused r
-  → Judgement s before after j → accept s ≡ refused r
+    → Judgement s before after j → accept s ≡ refused r
 as-refused s before after j e h = subst (Judgement s before after) e h
 
 module _ {s before after : List ℕ} {l : Layout} {n : ℕ} (found : AcceptedAs s before after l n) where
@@ -43,14 +43,14 @@ module _ {s before after : List ℕ} {l : Layout} {n : ℕ} (found : AcceptedAs 
 module _ (s buffer : List ℕ) where
   -- the file is refused
   pub judge-refused : (r : Refusal) → accept s ≡ refused r
-    → (judged.Refused r ≡ judgedOf (judgeAnswer s (length buffer))) × (buffer ≡ judgeBuffer s buffer)
+      → (judged.Refused r ≡ judgedOf (judgeAnswer s (length buffer))) × (buffer ≡ judgeBuffer s buffer)
   unfolding judgeAnswer judgeBuffer
   judge-refused r e = rw e (refl, refl)
 
   module _ {before after : List ℕ} {l : Layout} {n : ℕ} (found : AcceptedAs s before after l n) where
     -- the buffer is too short for the report
     pub judge-short : length buffer < n
-      → (judged.Refused (ShortBuffer n) ≡ judgedOf (judgeAnswer s (length buffer))) × (buffer ≡ judgeBuffer s buffer)
+        → (judged.Refused (ShortBuffer n) ≡ judgedOf (judgeAnswer s (length buffer))) × (buffer ≡ judgeBuffer s buffer)
     unfolding judgeAnswer judgeBuffer
     judge-short h =
         rw (found .accepts, lt-leb (length (found .accepted .report)) (length buffer) (rw (found .size) at h))
@@ -58,13 +58,13 @@ module _ (s buffer : List ℕ) where
 
     -- the report is copied over the buffer
     pub judge-done : n ≤ length buffer → (exit : List ℕ)
-      → exit ≡ take (length (take n after)) (take n after) ++ drop (length (take n after)) buffer
-      → (judged.Report n ≡ judgedOf (judgeAnswer s (length buffer))) × (exit ≡ judgeBuffer s buffer)
+        → exit ≡ take (length (take n after)) (take n after) ++ drop (length (take n after)) buffer
+        → (judged.Report n ≡ judgedOf (judgeAnswer s (length buffer))) × (exit ≡ judgeBuffer s buffer)
     unfolding judgeAnswer judgeBuffer laidOver
     judge-done h exit e =
         let report = found .accepted .report in
         let copied : exit ≡ report ++ drop (length report) buffer =
-          e ∙ ap (λ (front : List ℕ). take (length front) front ++ drop (length front) buffer) (report-front found)
-          ∙ ap (λ (front : List ℕ). front ++ drop (length report) buffer) (take-length report) in
+        e ∙ ap (λ (front : List ℕ). take (length front) front ++ drop (length front) buffer) (report-front found)
+        ∙ ap (λ (front : List ℕ). front ++ drop (length report) buffer) (take-length report) in
         rw (found .accepts, le-leb (length report) (length buffer) (rw (found .size) at h))
         (ap judged.Report (found .size), copied)

@@ -19,7 +19,7 @@ use Rattle.hogunlas.specs.Opened.{Opened, OpenedFile}
 
 -- an accepted program was judged to its report
 accepted-program : (p : Program) (x : Answer (List ℕ)) (a : Accepted)
-  → (x >>= λ (report : List ℕ). fine (record { program = p; report = report })) ≡ fine a → a .program ≡ p
+    → (x >>= λ (report : List ℕ). fine (record { program = p; report = report })) ≡ fine a → a .program ≡ p
 accepted-program p (fine report) a e = cc
 accepted-program p (refused r) a e = cc
 
@@ -32,7 +32,7 @@ pub opened-by : {s before after : List ℕ} {l : Layout} {n : ℕ} (found : Acce
 opened-by {s} {before} {after} {l} found =
     let a = found .accepted in
     let same : a ≡ record { program = programOf s l; report = a .report } =
-      ap (λ (p : Program). record { program = p; report = a .report }) (program-of s l a (found .reads) (found .accepts)) in
+    ap (λ (p : Program). record { program = p; report = a .report }) (program-of s l a (found .reads) (found .accepts)) in
     record { reads = found .reads; accepts = found .accepts ∙ ap fine same }
 
 module _ (s : List ℕ) (l : Layout) where

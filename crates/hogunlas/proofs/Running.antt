@@ -40,28 +40,28 @@ every-entry l list e i h =
 module _ (s list buffer : List ℕ) where
   -- the file is refused
   pub run-refused : (r : Refusal) → accept s ≡ refused r
-    → (ran.Refused r ≡ ranOf (runAnswer s list (length buffer))) × (buffer ≡ runBuffer s list buffer)
+      → (ran.Refused r ≡ ranOf (runAnswer s list (length buffer))) × (buffer ≡ runBuffer s list buffer)
   unfolding runAnswer runBuffer
   run-refused r e = rw e (refl, refl)
 
   module _ (l : Layout) (report : List ℕ) (o : Opened s l report) where
     -- the list is too long
     pub run-long : 65536 < length list
-      → (ran.Refused (LongList 65536) ≡ ranOf (runAnswer s list (length buffer))) × (buffer ≡ runBuffer s list buffer)
+        → (ran.Refused (LongList 65536) ≡ ranOf (runAnswer s list (length buffer))) × (buffer ≡ runBuffer s list buffer)
     unfolding runAnswer runBuffer
     run-long h = rw (o .accepts, lt-leb (length list) 65536 h) (refl, refl)
 
     module _ (h : length list ≤ 65536) where
       -- an entry names no thread
       pub run-thread : (i : ℕ) → firstBad (λ k. ltb (getD list k 0) (l .threads)) 1 (length list) 0 ≡ At i
-        → (ran.Refused (ThreadNumber i) ≡ ranOf (runAnswer s list (length buffer))) × (buffer ≡ runBuffer s list buffer)
+          → (ran.Refused (ThreadNumber i) ≡ ranOf (runAnswer s list (length buffer))) × (buffer ≡ runBuffer s list buffer)
       unfolding runAnswer runBuffer
       run-thread i e = rw (o .accepts, le-leb (length list) 65536 h, count-threads s l, e) (refl, refl)
 
       module _ (e : firstBad (λ k. ltb (getD list k 0) (l .threads)) 1 (length list) 0 ≡ Nowhere) where
         -- the buffer is too short for the state
         pub run-short : length buffer < size l
-          → (ran.Refused (ShortBuffer (size l)) ≡ ranOf (runAnswer s list (length buffer))) × (buffer ≡ runBuffer s list buffer)
+            → (ran.Refused (ShortBuffer (size l)) ≡ ranOf (runAnswer s list (length buffer))) × (buffer ≡ runBuffer s list buffer)
         unfolding runAnswer runBuffer
         run-short k =
             rw (o .accepts, le-leb (length list) 65536 h, count-threads s l, e, state-size s l, lt-leb (size l) (length buffer) k)
@@ -69,9 +69,9 @@ module _ (s list buffer : List ℕ) where
 
         -- the list was run, and its end state laid over the buffer
         pub run-done : size l ≤ length buffer → (c : Counts) → countsOf c ≡ run (programOf s l) list .counts
-          → (exit : List ℕ)
-          → exit ≡ stateBytes (run (programOf s l) list .state) ++ drop (length (stateBytes (run (programOf s l) list .state))) buffer
-          → (ran.Counts (c .moved) (c .waiting) (c .idle) ≡ ranOf (runAnswer s list (length buffer))) × (exit ≡ runBuffer s list buffer)
+            → (exit : List ℕ)
+            → exit ≡ stateBytes (run (programOf s l) list .state) ++ drop (length (stateBytes (run (programOf s l) list .state))) buffer
+            → (ran.Counts (c .moved) (c .waiting) (c .idle) ≡ ranOf (runAnswer s list (length buffer))) × (exit ≡ runBuffer s list buffer)
         unfolding runAnswer runBuffer laidOver
         run-done k c counted exit x =
             rw (o .accepts, le-leb (length list) 65536 h, count-threads s l, e, state-size s l, le-leb (size l) (length buffer) k, ← counted)

@@ -1,10 +1,10 @@
 // The calls for C and Rust (include/hogunlas.h): answers as structs of numbers, refusal 0 for none. A slice is a pointer and a length.
-use program::refusal::detail;
-use program::refusal::number;
 use crate::Judged;
 use crate::Ran;
 use crate::judge;
 use crate::run;
+use program::refusal::detail;
+use program::refusal::number;
 ghost use mathlib.Core.Path.{_≡_};
 ghost use lib.ListN.{length};
 ghost use Rattle.soundness.specs.Demand.{Demand3};

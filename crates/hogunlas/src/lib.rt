@@ -3,13 +3,13 @@
 pub mod export;
 pub mod list;
 
+use crate::list::first_bad_thread;
 use judge::judging::Judging;
 use judge::judging::judge_file;
 use machine::run::run_list;
 use program::found::Found;
 use program::layout::Layout;
 use program::refusal::Refusal;
-use crate::list::first_bad_thread;
 ghost use mathlib.Core.Path.{_≡_};
 ghost use lib.ListN.{length};
 ghost use Rattle.soundness.specs.Demand.{Demand3};

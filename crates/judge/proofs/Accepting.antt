@@ -32,9 +32,10 @@ module _ (s : List ℕ) (locks variables : ℕ) where
   sections-nested : (n at m : ℕ) → SoundSections s locks variables n at m → Nested (threadsAt locks variables s n at)
   unfolding threadsAt
   sections-nested zero at m x = tt
-  sections-nested (suc n) at m x =
-      (nested-flat (instructionsAt locks variables s (countAt s at) (at + 2)) (x .1 .nested)
-      , sections-nested n (at + 2 + 4 * countAt s at) (x .0) (x .3))
+  sections-nested (suc n) at m x = (
+    nested-flat (instructionsAt locks variables s (countAt s at) (at + 2)) (x .1 .nested),
+    sections-nested n (at + 2 + 4 * countAt s at) (x .0) (x .3),
+  )
 
   -- a byte for each instruction and each thread
   sections-size : (n at m : ℕ) → SoundSections s locks variables n at m
@@ -104,12 +105,12 @@ module _ (s : List ℕ) (l : Layout) (e : reading s ≡ Sound l) where
       where
         go : (m : Answer (List ℕ)) → Holds Sized m → accept s ≡ (m >>= λ bytes. fine (acceptedOf s l bytes))
             → fine after ≡ (m >>= λ bytes. fine (sets report 0 bytes)) → AcceptedAs s report after l (l .instructions + l .threads)
-        go (fine bytes) n a q = record
-          { accepted = acceptedOf s l bytes
-          ; accepts = a
-          ; reads = e
-          ; size = sym (n .0)
-          ; counted = refl
-          ; bytes = fine-inj after (sets report 0 bytes) q ∙ sets-all report bytes (omega (arith, n .1)) ∙ ap (λ (i : ℕ). bytes ++ drop i report) (n .0)
-          }
+        go (fine bytes) n a q = record {
+          accepted = acceptedOf s l bytes;
+          accepts = a;
+          reads = e;
+          size = sym (n .0);
+          counted = refl;
+          bytes = fine-inj after (sets report 0 bytes) q ∙ sets-all report bytes (omega (arith, n .1)) ∙ ap (λ (i : ℕ). bytes ++ drop i report) (n .0);
+        }
         go (refused r) n a q = fine-not-refused after r (sym q)

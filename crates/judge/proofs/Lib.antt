@@ -4,9 +4,10 @@
 --     Answers         going on with what was answered
 --     Reports         bytes stored one after the other
 --     Scanning        the scan over flat code is the rules over structured code
---     ScanLoop, ScanThreads, ThreadLoop
---                     the scan as the loops of src/ take it
---     Accepting       from the scans of all threads to the file's acceptance
+--     ScanThreads     ... over the threads of a program
+--     ScanLoop        the loop over a thread's code
+--     ThreadLoop      the loop over the threads
+--     Accepting       from the scan to what judging a file answers
 --     Rules, RulesProgram, RulesFile
 --                     judging code, a program and a file is deriving by the rules
 pub mod LockSets
@@ -14,8 +15,8 @@ pub mod VariableKinds
 pub mod Answers
 pub mod Reports
 pub mod Scanning
-pub mod ScanLoop
 pub mod ScanThreads
+pub mod ScanLoop
 pub mod ThreadLoop
 pub mod Accepting
 pub mod Rules

@@ -87,21 +87,21 @@ module _ (s : List ℕ) (l : Layout) (t start count at : ℕ) (report₀ : List 
   pub scanning-start : (whole : Frame) (locks : LockSet) → whole ≡ wholeFrame → locks ≡ empty
       → Scanning report₀ (replicate 17 whole) 0 locks Both start at count
   unfolding starting framesOf
-  scanning-start whole locks e₁ e₂ = record
-    { bound = omega arith
-    ; offset = refl
-    ; place = refl
-    ; deep = omega arith
-    ; room = length-replicate 17 whole
-    ; kept = refl
-    ; rest = rw (e₁, e₂)
-    }
+  scanning-start whole locks e₁ e₂ = record {
+    bound = omega arith;
+    offset = refl;
+    place = refl;
+    deep = omega arith;
+    room = length-replicate 17 whole;
+    kept = refl;
+    rest = rw (e₁, e₂);
+  }
 
   -- one more instruction
   scan-cons : (d here n : ℕ) (y : Carried)
       → scan (programOf s l) t d here y (code (suc n) d)
-        ≡ (follow d here y (turn (programOf s l) t d here (instructionOf (decodeAt (l .locks) (l .variables) s d)) (y .locks) (y .sofar) (y .inner))
-            >>= λ z. scan (programOf s l) t (d + 4) (suc here) z (code n (d + 4)))
+      ≡ (follow d here y (turn (programOf s l) t d here (instructionOf (decodeAt (l .locks) (l .variables) s d)) (y .locks) (y .sofar) (y .inner))
+      >>= λ z. scan (programOf s l) t (d + 4) (suc here) z (code n (d + 4)))
   unfolding scan instructionsAt
   scan-cons d here n y = refl
 
@@ -110,8 +110,8 @@ module _ (s : List ℕ) (l : Layout) (t start count at : ℕ) (report₀ : List 
       (e : i ≡ instructionOf (decodeAt (l .locks) (l .variables) s d)) where
     -- one turn
     next : (follow d here (state report frames depth locks sofar) (turn (programOf s l) t d here i locks sofar (getD frames depth wholeFrame))
-              >>= λ y. scan (programOf s l) t (d + 4) (here + 1) y (code (left - 1) (d + 4)))
-            ≡ wholeScan
+        >>= λ y. scan (programOf s l) t (d + 4) (here + 1) y (code (left - 1) (d + 4)))
+        ≡ wholeScan
     next =
         let here₀ = state report frames depth locks sofar in
         rw (e, add-one here)
@@ -123,14 +123,14 @@ module _ (s : List ℕ) (l : Layout) (t start count at : ℕ) (report₀ : List 
     module _ (plain : formOf i ≡ form.Plain) where
       next-plain : (m : Answer LockSet) → m ≡ locksAfter (programOf s l) t d i locks
           → (m >>= λ s′. scan (programOf s l) t (d + 4) (here + 1)
-              (state (set report here (reportByte (atomicityOf (programOf s l) t i))) frames depth s′ (composition sofar (atomicityOf (programOf s l) t i)))
-              (code (left - 1) (d + 4)))
-            ≡ wholeScan
+          (state (set report here (reportByte (atomicityOf (programOf s l) t i))) frames depth s′ (composition sofar (atomicityOf (programOf s l) t i)))
+          (code (left - 1) (d + 4)))
+          ≡ wholeScan
       next-plain m k =
           rw k
           (sym (bind-assoc (locksAfter (programOf s l) t d i locks) _ _)
           ∙ ap (λ (n : Answer Carried). n >>= λ y. scan (programOf s l) t (d + 4) (here + 1) y (code (left - 1) (d + 4)))
-              (sym (plain-turn (programOf s l) t d here i locks sofar (getD frames depth wholeFrame) (framesOf depth frames) report plain))
+          (sym (plain-turn (programOf s l) t d here i locks sofar (getD frames depth wholeFrame) (framesOf depth frames) report plain))
           ∙ next)
 
       pub ends-plain : (r : Refusal) → refused r ≡ locksAfter (programOf s l) t d i locks → refused r ≡ wholeScan
@@ -138,78 +138,78 @@ module _ (s : List ℕ) (l : Layout) (t start count at : ℕ) (report₀ : List 
 
       pub next-passed : (s′ : LockSet) (b : Atomicity) → fine s′ ≡ locksAfter (programOf s l) t d i locks → b ≡ atomicityOf (programOf s l) t i
           → Scanning (set report here (reportByte b)) frames depth s′ (composition sofar b) (d + 4) (here + 1) (left - 1)
-      next-passed s′ b k q = record
-        { bound = omega (arith, x .bound)
-        ; offset = omega (arith, x .offset)
-        ; place = omega (arith, x .place)
-        ; deep = x .deep
-        ; room = x .room
-        ; kept = length-set report here (reportByte b) ∙ x .kept
-        ; rest = rw q (next-plain (fine s′) k)
-        }
+      next-passed s′ b k q = record {
+        bound = omega (arith, x .bound);
+        offset = omega (arith, x .offset);
+        place = omega (arith, x .place);
+        deep = x .deep;
+        room = x .room;
+        kept = length-set report here (reportByte b) ∙ x .kept;
+        rest = rw q (next-plain (fine s′) k);
+      }
 
     -- any other, by its turn
     module _ (z : Frame) (u : Turn) (q : u ≡ turn (programOf s l) t d here i locks sofar (getD frames depth z)) where
       -- the turn with its step known
       next-by : (step : Step) → u .step ≡ step
           → (followBy step d here (state report frames depth locks sofar) u
-                >>= λ y. scan (programOf s l) t (d + 4) (here + 1) y (code (left - 1) (d + 4)))
-            ≡ wholeScan
+          >>= λ y. scan (programOf s l) t (d + 4) (here + 1) y (code (left - 1) (d + 4)))
+          ≡ wholeScan
       unfolding follow
       next-by step k =
           let inside : depth < length frames = omega (arith, x .room, x .deep) in
           let v : u ≡ turn (programOf s l) t d here i locks sofar (getD frames depth wholeFrame) =
-              q ∙ ap (λ (f : Frame). turn (programOf s l) t d here i locks sofar f) (getD-any frames depth z wholeFrame inside) in
+          q ∙ ap (λ (f : Frame). turn (programOf s l) t d here i locks sofar f) (getD-any frames depth z wholeFrame inside) in
           rw (← k) (rw (← v) at next)
 
       pub next-pass : (b : ℕ) → u .step ≡ Pass b
           → Scanning (set report here b) frames depth (u .locks) (u .sofar) (d + 4) (here + 1) (left - 1)
       unfolding followBy
-      next-pass b k = record
-        { bound = omega (arith, x .bound)
-        ; offset = omega (arith, x .offset)
-        ; place = omega (arith, x .place)
-        ; deep = x .deep
-        ; room = x .room
-        ; kept = length-set report here b ∙ x .kept
-        ; rest = next-by (Pass b) k
-        }
+      next-pass b k = record {
+        bound = omega (arith, x .bound);
+        offset = omega (arith, x .offset);
+        place = omega (arith, x .place);
+        deep = x .deep;
+        room = x .room;
+        kept = length-set report here b ∙ x .kept;
+        rest = next-by (Pass b) k;
+      }
 
       pub next-open : u .step ≡ Open → depth < 16
           → Scanning (set report here 0) (set frames (depth + 1) (u .frame)) (depth + 1) (u .locks) (u .sofar) (d + 4) (here + 1) (left - 1)
       unfolding followBy framesOf
       next-open k h =
           let room : ltb (length (framesOf depth frames)) 16 ≡ true =
-              lt-ltb (length (framesOf depth frames)) 16 (omega (arith, length-frames depth frames)) in
+          lt-ltb (length (framesOf depth frames)) 16 (omega (arith, length-frames depth frames)) in
           let inside : suc depth < length frames = omega (arith, x .room) in
-          record
-        { bound = omega (arith, x .bound)
-        ; offset = omega (arith, x .offset)
-        ; place = omega (arith, x .place)
-        ; deep = omega arith
-        ; room = length-set frames (depth + 1) (u .frame) ∙ x .room
-        ; kept = length-set report here 0 ∙ x .kept
-        ; rest =
-            rw (add-one depth, getD-set-same frames (suc depth) (u .frame) wholeFrame inside, frames-past (suc depth) (suc depth) frames (u .frame) (le-refl (suc depth)))
-            (rw room at (next-by Open k))
-        }
+          record {
+            bound = omega (arith, x .bound);
+            offset = omega (arith, x .offset);
+            place = omega (arith, x .place);
+            deep = omega arith;
+            room = length-set frames (depth + 1) (u .frame) ∙ x .room;
+            kept = length-set report here 0 ∙ x .kept;
+            rest =
+                rw (add-one depth, getD-set-same frames (suc depth) (u .frame) wholeFrame inside, frames-past (suc depth) (suc depth) frames (u .frame) (le-refl (suc depth)))
+                (rw room at (next-by Open k));
+          }
 
       pub next-replace : u .step ≡ Replace
           → Scanning (set report here 0) (set frames depth (u .frame)) depth (u .locks) (u .sofar) (d + 4) (here + 1) (left - 1)
       unfolding followBy
       next-replace k =
           let inside : depth < length frames = omega (arith, x .room, x .deep) in
-          record
-        { bound = omega (arith, x .bound)
-        ; offset = omega (arith, x .offset)
-        ; place = omega (arith, x .place)
-        ; deep = x .deep
-        ; room = length-set frames depth (u .frame) ∙ x .room
-        ; kept = length-set report here 0 ∙ x .kept
-        ; rest =
-            rw (getD-set-same frames depth (u .frame) wholeFrame inside, frames-past depth depth frames (u .frame) (le-refl depth))
-            (next-by Replace k)
-        }
+          record {
+            bound = omega (arith, x .bound);
+            offset = omega (arith, x .offset);
+            place = omega (arith, x .place);
+            deep = x .deep;
+            room = length-set frames depth (u .frame) ∙ x .room;
+            kept = length-set report here 0 ∙ x .kept;
+            rest =
+                rw (getD-set-same frames depth (u .frame) wholeFrame inside, frames-past depth depth frames (u .frame) (le-refl depth))
+                (next-by Replace k);
+          }
 
       pub next-close : (opener b : ℕ) → u .step ≡ Close opener b → 0 < depth
           → Scanning (set (set report here 0) opener b) frames (depth - 1) (u .locks) (u .sofar) (d + 4) (here + 1) (left - 1)
@@ -217,15 +217,15 @@ module _ (s : List ℕ) (l : Layout) (t start count at : ℕ) (report₀ : List 
       next-close opener b k h =
           let same : depth ≡ suc (depth - 1) = omega arith in
           let around : framesOf depth frames ≡ framesOf (suc (depth - 1)) frames = ap (λ (n : ℕ). framesOf n frames) same in
-          record
-        { bound = omega (arith, x .bound)
-        ; offset = omega (arith, x .offset)
-        ; place = omega (arith, x .place)
-        ; deep = omega (arith, x .deep)
-        ; room = x .room
-        ; kept = length-set (set report here 0) opener b ∙ length-set report here 0 ∙ x .kept
-        ; rest = rw around at (next-by (Close opener b) k)
-        }
+          record {
+            bound = omega (arith, x .bound);
+            offset = omega (arith, x .offset);
+            place = omega (arith, x .place);
+            deep = omega (arith, x .deep);
+            room = x .room;
+            kept = length-set (set report here 0) opener b ∙ length-set report here 0 ∙ x .kept;
+            rest = rw around at (next-by (Close opener b) k);
+          }
 
       pub ends-refuse : (r : Refusal) → u .step ≡ Refuse r → refused r ≡ wholeScan
       unfolding followBy
@@ -235,7 +235,7 @@ module _ (s : List ℕ) (l : Layout) (t start count at : ℕ) (report₀ : List 
       unfolding followBy
       ends-full k h =
           let room : ltb (length (framesOf depth frames)) 16 ≡ false =
-              le-ltb (length (framesOf depth frames)) 16 (omega (arith, length-frames depth frames)) in
+          le-ltb (length (framesOf depth frames)) 16 (omega (arith, length-frames depth frames)) in
           rw room at (next-by Open k)
 
       pub ends-bare : (opener b : ℕ) → u .step ≡ Close opener b → depth ≡ 0 → refused (Nesting d) ≡ wholeScan
@@ -248,7 +248,7 @@ module _ (s : List ℕ) (l : Layout) (t start count at : ℕ) (report₀ : List 
   ends : (report : List ℕ) (frames : List Frame) (depth : ℕ) (locks : LockSet) (sofar : Atomicity) (d here left : ℕ)
       → Scanning report frames depth locks sofar d here left → left ≤ 0
       → ending d here (state report frames depth locks sofar)
-        ≡ scanThread (programOf s l) t at report₀ (record { start = start; code = code count start })
+      ≡ scanThread (programOf s l) t at report₀ (record { start = start; code = code count start })
   unfolding scanThread instructionsAt scan
   ends report frames depth locks sofar d here left x none =
       let y = state report frames depth locks sofar in
@@ -259,14 +259,14 @@ module _ (s : List ℕ) (l : Layout) (t start count at : ℕ) (report₀ : List 
       ap (λ (k : ℕ). ending k here y) e₂
       ∙ ap (λ (k : ℕ). ending (start + 4 * n) k y) e₃
       ∙ ap (λ (m : Answer Carried). m >>= λ z. ending (start + 4 * n) (at + n) z)
-          (ap (λ (k : ℕ). scan (programOf s l) t d here y (code k d)) e₁ ∙ x .rest)
+      (ap (λ (k : ℕ). scan (programOf s l) t d here y (code k d)) e₁ ∙ x .rest)
 
   module _ (report : List ℕ) (frames : List Frame) (depth : ℕ) (locks : LockSet) (sofar : Atomicity) (d here left : ℕ)
       (x : Scanning report frames depth locks sofar d here left) (none : left ≤ 0) where
     -- no lock is held
     pub ends-fine : same locks empty ≡ true
         → fine (set report here (reportByte sofar))
-          ≡ scanThread (programOf s l) t at report₀ (record { start = start; code = code count start })
+        ≡ scanThread (programOf s l) t at report₀ (record { start = start; code = code count start })
     unfolding ending
     ends-fine e = rw e at (ends report frames depth locks sofar d here left x none)
 

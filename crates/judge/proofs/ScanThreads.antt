@@ -63,17 +63,17 @@ module _ (p : Program) where
       let size-is = size-of section w in
       ap (λ (is : List Instruction). scan p t (section .start) at (starting report) is >>= ending end (at + n)) (sym (append-nil (flat c) ∙ w .flat-is))
       ∙ ap (λ (m : Answer Carried). m >>= ending end (at + n))
-          (scan-agrees p t c (section .start) at empty Both wholeFrame [] report [] (w .well-formed) (omega (arith, w .shallow)))
+      (scan-agrees p t c (section .start) at empty Both wholeFrame [] report [] (w .well-formed) (omega (arith, w .shallow)))
       ∙ bind-assoc (judge p t (section .start) empty c) _ (ending end (at + n))
       ∙ bind-ext (judge p t (section .start) empty c) _ _ (λ r e.
-          let m = holds-fine _ (judge p t (section .start) empty c) r (report-size p t c (section .start) empty) e in
-          require-ext (same (r .locks) empty) (SetsDiffer end) _ _ (λ _.
-              let place : at + n ≡ at + length (r .report) = omega arith in
-              let last = reportByte (r .atomicity) in
-              ap (λ (a : Atomicity). fine (set (sets report at (r .report)) (at + n) (reportByte a))) (both-then (r .atomicity))
-              ∙ ap (λ (k : ℕ). fine (set (sets report at (r .report)) k last)) place
-              ∙ ap (λ (bytes : List ℕ). fine bytes) (sym (sets-append report at (r .report) (last ∷ []))))
-          ∙ sym (require-bind (same (r .locks) empty) (SetsDiffer end) _ _))
+      let m = holds-fine _ (judge p t (section .start) empty c) r (report-size p t c (section .start) empty) e in
+      require-ext (same (r .locks) empty) (SetsDiffer end) _ _ (λ _.
+      let place : at + n ≡ at + length (r .report) = omega arith in
+      let last = reportByte (r .atomicity) in
+      ap (λ (a : Atomicity). fine (set (sets report at (r .report)) (at + n) (reportByte a))) (both-then (r .atomicity))
+      ∙ ap (λ (k : ℕ). fine (set (sets report at (r .report)) k last)) place
+      ∙ ap (λ (bytes : List ℕ). fine bytes) (sym (sets-append report at (r .report) (last ∷ []))))
+      ∙ sym (require-bind (same (r .locks) empty) (SetsDiffer end) _ _))
       ∙ sym (bind-assoc (judge p t (section .start) empty c) _ _)
 
   pub threads-agree : (t at : ℕ) (report : List ℕ) (sections : List CodeSection) → Nested sections
@@ -85,13 +85,13 @@ module _ (p : Program) where
       ap (λ (m : Answer (List ℕ)). m >>= λ left. scanThreads p (suc t) next left sections) (thread-agrees t at report section (w .0))
       ∙ bind-assoc (judgeThread p t section) _ _
       ∙ bind-ext (judgeThread p t section) _ _ (λ bytes e.
-          let n = holds-fine _ (judgeThread p t section) bytes (thread-size t section (w .0)) e in
-          let place : next ≡ at + length bytes = omega arith in
-          threads-agree (suc t) next (sets report at bytes) sections (w .1)
-          ∙ bind-ext (judgeThreads p (suc t) sections) _ _ (λ more _.
-              ap (λ (k : ℕ). fine (sets (sets report at bytes) k more)) place
-              ∙ ap (λ (left : List ℕ). fine left) (sym (sets-append report at bytes more)))
-          ∙ sym (bind-assoc (judgeThreads p (suc t) sections) _ _))
+      let n = holds-fine _ (judgeThread p t section) bytes (thread-size t section (w .0)) e in
+      let place : next ≡ at + length bytes = omega arith in
+      threads-agree (suc t) next (sets report at bytes) sections (w .1)
+      ∙ bind-ext (judgeThreads p (suc t) sections) _ _ (λ more _.
+      ap (λ (k : ℕ). fine (sets (sets report at bytes) k more)) place
+      ∙ ap (λ (left : List ℕ). fine left) (sym (sets-append report at bytes more)))
+      ∙ sym (bind-assoc (judgeThreads p (suc t) sections) _ _))
       ∙ sym (bind-assoc (judgeThread p t section) _ _)
 
   pub threads-size : (t : ℕ) (sections : List CodeSection) → Nested sections

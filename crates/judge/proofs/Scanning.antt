@@ -81,7 +81,7 @@ module _ (p : Program) (t : ℕ) where
   Agrees c = (d at : ℕ) (s : LockSet) (a : Atomicity) (f : Frame) (fs : List Frame) (report : List ℕ) (rest : List Instruction)
       → WellFormed c → depth c + length fs ≤ 16
       → scan p t d at (carried s a f fs report) (flat c ++ rest)
-        ≡ (judge p t d s c >>= λ r. scan p t (d + 4 * size c) (at + size c) (after at a f fs report r) rest)
+      ≡ (judge p t d s c >>= λ r. scan p t (d + 4 * size c) (at + size c) (after at a f fs report r) rest)
 
   -- the same scan, its offset, index, atomicity and report told otherwise
   scan-eq : (d d′ at at′ : ℕ) (s : LockSet) (a a′ : Atomicity) (f : Frame) (fs : List Frame) (report report′ : List ℕ)
@@ -100,27 +100,27 @@ module _ (p : Program) (t : ℕ) where
       → WellFormed c → depth c + length fs ≤ 16
       → d + 4 * size c ≡ m → at′ + size c ≡ n → ((v : List ℕ) → sets report′ at′ v ≡ sets report at (whole v))
       → scan p t d at′ (carried s (composition a b) f fs report′) (flat c ++ rest)
-        ≡ ((judge p t d s c >>= λ r. fine (record { locks = r .locks; atomicity = composition b (r .atomicity); report = whole (r .report) }))
-            >>= λ r. scan p t m n (after at a f fs report r) rest)
+      ≡ ((judge p t d s c >>= λ r. fine (record { locks = r .locks; atomicity = composition b (r .atomicity); report = whole (r .report) }))
+      >>= λ r. scan p t m n (after at a f fs report r) rest)
   then-agrees c next d m at at′ n s a b f fs report report′ whole rest w h e₁ e₂ e₃ =
       next d at′ s (composition a b) f fs report′ rest w h
       ∙ bind-ext (judge p t d s c) _ _ (λ r e.
-          scan-eq (d + 4 * size c) m (at′ + size c) n (r .locks) (composition (composition a b) (r .atomicity))
-            (composition a (composition b (r .atomicity))) f fs (sets report′ at′ (r .report)) (sets report at (whole (r .report))) rest
-            e₁ e₂ (then-assoc a b (r .atomicity)) (e₃ (r .report)))
+      scan-eq (d + 4 * size c) m (at′ + size c) n (r .locks) (composition (composition a b) (r .atomicity))
+      (composition a (composition b (r .atomicity))) f fs (sets report′ at′ (r .report)) (sets report at (whole (r .report))) rest
+      e₁ e₂ (then-assoc a b (r .atomicity)) (e₃ (r .report)))
       ∙ sym (bind-assoc (judge p t d s c) _ _)
 
   -- one turn of a plain instruction
   pub plain-turn : (d at : ℕ) (i : Instruction) (s : LockSet) (a : Atomicity) (f : Frame) (fs : List Frame) (report : List ℕ)
       → formOf i ≡ form.Plain
       → follow d at (carried s a f fs report) (turn p t d at i s a f)
-        ≡ (locksAfter p t d i s >>= λ s′. fine (carried s′ (composition a (atomicityOf p t i)) f fs (set report at (reportByte (atomicityOf p t i)))))
+      ≡ (locksAfter p t d i s >>= λ s′. fine (carried s′ (composition a (atomicityOf p t i)) f fs (set report at (reportByte (atomicityOf p t i)))))
   unfolding turn turnBy follow followBy
   plain-turn d at i s a f fs report e = rw e (go (locksAfter p t d i s))
     where
       go : (m : Answer LockSet)
           → follow d at (carried s a f fs report) (passing (atomicityOf p t i) s a f m)
-            ≡ (m >>= λ s′. fine (carried s′ (composition a (atomicityOf p t i)) f fs (set report at (reportByte (atomicityOf p t i)))))
+          ≡ (m >>= λ s′. fine (carried s′ (composition a (atomicityOf p t i)) f fs (set report at (reportByte (atomicityOf p t i)))))
       go (fine s′) = refl
       go (refused r) = refl
 
@@ -132,15 +132,15 @@ module _ (p : Program) (t : ℕ) where
       ap (λ (m : Answer Carried). m >>= λ y. scan p t (d + 4) (suc at) y (flat c ++ rest)) (plain-turn d at i s a f fs report (w .0))
       ∙ bind-assoc (locksAfter p t d i s) (λ s′. fine (carried s′ (composition a b) f fs report′)) (λ y. scan p t (d + 4) (suc at) y (flat c ++ rest))
       ∙ bind-ext (locksAfter p t d i s) _ _ (λ s′ e.
-          then-agrees c next (d + 4) (d + 4 * size (plain i c)) at (suc at) (at + size (plain i c)) s′ a b f fs report report′
-            (λ v. reportByte b ∷ v) rest (w .1) h (omega arith) (omega arith) (λ v. refl))
+      then-agrees c next (d + 4) (d + 4 * size (plain i c)) at (suc at) (at + size (plain i c)) s′ a b f fs report report′
+      (λ v. reportByte b ∷ v) rest (w .1) h (omega arith) (omega arith) (λ v. refl))
       ∙ sym (bind-assoc (locksAfter p t d i s) _ _)
 
   -- past an opener
   open-scan : (part : Part) (d at : ℕ) (i : Instruction) (is : List Instruction) (s : LockSet) (a : Atomicity) (f : Frame) (fs : List Frame)
       (report : List ℕ) → turn p t d at i s a f ≡ opening part at s a → length fs < 16
       → scan p t d at (carried s a f fs report) (i ∷ is)
-        ≡ scan p t (d + 4) (suc at) (carried s Both (opened part at s a) (f ∷ fs) (set report at 0)) is
+      ≡ scan p t (d + 4) (suc at) (carried s Both (opened part at s a) (f ∷ fs) (set report at 0)) is
   unfolding scan follow followBy
   open-scan part d at i is s a f fs report e h = rw (e, lt-ltb _ _ h)
 
@@ -148,7 +148,7 @@ module _ (p : Program) (t : ℕ) where
   part-agrees : (c : Code) → Agrees c → (d at : ℕ) (s : LockSet) (f : Frame) (fs : List Frame) (report : List ℕ) (rest : List Instruction)
       → WellFormed c → depth c + length fs ≤ 16
       → scan p t d at (carried s Both f fs report) (flat c ++ rest)
-        ≡ (judge p t d s c >>= λ r. scan p t (d + 4 * size c) (at + size c) (carried (r .locks) (r .atomicity) f fs (sets report at (r .report))) rest)
+      ≡ (judge p t d s c >>= λ r. scan p t (d + 4 * size c) (at + size c) (carried (r .locks) (r .atomicity) f fs (sets report at (r .report))) rest)
   part-agrees c next d at s f fs report rest w h =
       next d at s Both f fs report rest w h
       ∙ bind-ext (judge p t d s c) _ _ (λ r e. rw (both-then (r .atomicity)))
@@ -157,7 +157,7 @@ module _ (p : Program) (t : ℕ) where
   close-turn : (ok : Bool) (refusal : Refusal) (d at : ℕ) (s s′ : LockSet) (a b : Atomicity) (f g : Frame) (fs : List Frame) (report : List ℕ)
       (go : Carried → Answer Carried)
       → (follow d at (carried s a f (g ∷ fs) report) (choose ok (closing b s′ f) (refusing refusal s a f)) >>= go)
-        ≡ require ok refusal (go (carried s′ (composition (f .before) b) g fs (set (set report at 0) (f .opener) (reportByte b))))
+      ≡ require ok refusal (go (carried s′ (composition (f .before) b) g fs (set (set report at 0) (f .opener) (reportByte b))))
   unfolding follow followBy
   close-turn true refusal d at s s′ a b f g fs report go = refl
   close-turn false refusal d at s s′ a b f g fs report go = refl
@@ -168,13 +168,13 @@ module _ (p : Program) (t : ℕ) where
       → WellFormed c → depth c + length fs ≤ 16
       → d + 4 * size c ≡ m → suc at₁ + size c ≡ n → at₁ ≡ suc at + length inside
       → scan p t d (suc at₁)
-          (carried s (composition a b) f fs (set (set (sets (set report at 0) (suc at) inside) at₁ 0) at (reportByte b))) (flat c ++ rest)
-        ≡ ((judge p t d s c >>= λ r. fine (record
-              { locks = r .locks; atomicity = composition b (r .atomicity); report = reportByte b ∷ (inside ++ 0 ∷ r .report) }))
-            >>= λ r. scan p t m n (after at a f fs report r) rest)
+      (carried s (composition a b) f fs (set (set (sets (set report at 0) (suc at) inside) at₁ 0) at (reportByte b))) (flat c ++ rest)
+      ≡ ((judge p t d s c >>= λ r. fine (record
+      { locks = r .locks; atomicity = composition b (r .atomicity); report = reportByte b ∷ (inside ++ 0 ∷ r .report) }))
+      >>= λ r. scan p t m n (after at a f fs report r) rest)
   construct-agrees c next d m at at₁ n s a b f fs report inside rest w h e₁ e₂ e₃ =
       then-agrees c next d m at (suc at₁) n s a b f fs report (set (set (sets (set report at 0) (suc at) inside) at₁ 0) at (reportByte b))
-        (λ v. reportByte b ∷ (inside ++ 0 ∷ v)) rest w h e₁ e₂ (λ v. sets-closed report at at₁ (reportByte b) inside v e₃)
+      (λ v. reportByte b ∷ (inside ++ 0 ∷ v)) rest w h e₁ e₂ (λ v. sets-closed report at at₁ (reportByte b) inside v e₃)
 
   loop-agrees : (x : ℕ) (body c : Code) → Agrees body → Agrees c → Agrees (loop x body c)
   unfolding flat judge size scan WellFormed depth turn turnBy formOf
@@ -184,17 +184,17 @@ module _ (p : Program) (t : ℕ) where
       let at₁ = suc at + size body in
       let more = instruction.Again (size body + 1) ∷ (flat c ++ rest) in
       ap (λ (is : List Instruction). scan p t d at (carried s a f fs report) (instruction.While x (size body + 1) ∷ is))
-        (append-assoc (flat body) (instruction.Again (size body + 1) ∷ flat c) rest)
+      (append-assoc (flat body) (instruction.Again (size body + 1) ∷ flat c) rest)
       ∙ open-scan part.Body d at (instruction.While x (size body + 1)) (flat body ++ more) s a f fs report refl (omega arith)
       ∙ part-agrees body inside (d + 4) (suc at) s frame (f ∷ fs) (set report at 0) more (w .0) (omega arith)
       ∙ bind-ext (judge p t (d + 4) s body) _ _ (λ r e.
-          let n = holds-fine _ (judge p t (d + 4) s body) r (report-size body (d + 4) s) e in
-          close-turn (same s (r .locks)) (SetsDiffer d₁) d₁ at₁ (r .locks) s (r .atomicity) (closure (r .atomicity)) frame f fs
-            (sets (set report at 0) (suc at) (r .report)) (λ y. scan p t (d₁ + 4) (suc at₁) y (flat c ++ rest))
-          ∙ require-ext (same s (r .locks)) (SetsDiffer d₁) _ _ (λ ok.
-              construct-agrees c next (d₁ + 4) (d + 4 * size (loop x body c)) at at₁ (at + size (loop x body c)) s a (closure (r .atomicity)) f fs
-                report (r .report) rest (w .1) (omega arith) (omega arith) (omega arith) (omega arith))
-          ∙ sym (require-bind (same s (r .locks)) (SetsDiffer d₁) _ _))
+      let n = holds-fine _ (judge p t (d + 4) s body) r (report-size body (d + 4) s) e in
+      close-turn (same s (r .locks)) (SetsDiffer d₁) d₁ at₁ (r .locks) s (r .atomicity) (closure (r .atomicity)) frame f fs
+      (sets (set report at 0) (suc at) (r .report)) (λ y. scan p t (d₁ + 4) (suc at₁) y (flat c ++ rest))
+      ∙ require-ext (same s (r .locks)) (SetsDiffer d₁) _ _ (λ ok.
+      construct-agrees c next (d₁ + 4) (d + 4 * size (loop x body c)) at at₁ (at + size (loop x body c)) s a (closure (r .atomicity)) f fs
+      report (r .report) rest (w .1) (omega arith) (omega arith) (omega arith) (omega arith))
+      ∙ sym (require-bind (same s (r .locks)) (SetsDiffer d₁) _ _))
       ∙ sym (bind-assoc (judge p t (d + 4) s body) _ _)
 
   block-agrees : (body c : Code) → Agrees body → Agrees c → Agrees (block body c)
@@ -205,17 +205,17 @@ module _ (p : Program) (t : ℕ) where
       let at₁ = suc at + size body in
       let more = instruction.End ∷ (flat c ++ rest) in
       ap (λ (is : List Instruction). scan p t d at (carried s a f fs report) (instruction.Atomic (size body + 1) ∷ is))
-        (append-assoc (flat body) (instruction.End ∷ flat c) rest)
+      (append-assoc (flat body) (instruction.End ∷ flat c) rest)
       ∙ open-scan part.Block d at (instruction.Atomic (size body + 1)) (flat body ++ more) s a f fs report refl (omega arith)
       ∙ part-agrees body inside (d + 4) (suc at) s frame (f ∷ fs) (set report at 0) more (w .0) (omega arith)
       ∙ bind-ext (judge p t (d + 4) s body) _ _ (λ r e.
-          let n = holds-fine _ (judge p t (d + 4) s body) r (report-size body (d + 4) s) e in
-          close-turn (not (isTop (r .atomicity))) (NotAtomic d₁) d₁ at₁ (r .locks) (r .locks) (r .atomicity) (r .atomicity) frame f fs
-            (sets (set report at 0) (suc at) (r .report)) (λ y. scan p t (d₁ + 4) (suc at₁) y (flat c ++ rest))
-          ∙ require-ext (not (isTop (r .atomicity))) (NotAtomic d₁) _ _ (λ ok.
-              construct-agrees c next (d₁ + 4) (d + 4 * size (block body c)) at at₁ (at + size (block body c)) (r .locks) a (r .atomicity) f fs
-                report (r .report) rest (w .1) (omega arith) (omega arith) (omega arith) (omega arith))
-          ∙ sym (require-bind (not (isTop (r .atomicity))) (NotAtomic d₁) _ _))
+      let n = holds-fine _ (judge p t (d + 4) s body) r (report-size body (d + 4) s) e in
+      close-turn (not (isTop (r .atomicity))) (NotAtomic d₁) d₁ at₁ (r .locks) (r .locks) (r .atomicity) (r .atomicity) frame f fs
+      (sets (set report at 0) (suc at) (r .report)) (λ y. scan p t (d₁ + 4) (suc at₁) y (flat c ++ rest))
+      ∙ require-ext (not (isTop (r .atomicity))) (NotAtomic d₁) _ _ (λ ok.
+      construct-agrees c next (d₁ + 4) (d + 4 * size (block body c)) at at₁ (at + size (block body c)) (r .locks) a (r .atomicity) f fs
+      report (r .report) rest (w .1) (omega arith) (omega arith) (omega arith) (omega arith))
+      ∙ sym (require-bind (not (isTop (r .atomicity))) (NotAtomic d₁) _ _))
       ∙ sym (bind-assoc (judge p t (d + 4) s body) _ _)
 
   choice-agrees : (x : ℕ) (one two c : Code) → Agrees one → Agrees two → Agrees c → Agrees (choice x one two c)
@@ -228,31 +228,31 @@ module _ (p : Program) (t : ℕ) where
       let last = instruction.End ∷ (flat c ++ rest) in
       let more = instruction.Else (size two + 1) ∷ (flat two ++ last) in
       ap (λ (is : List Instruction). scan p t d at (carried s a f fs report) (instruction.If x (size one + 1) ∷ is))
-        (append-assoc (flat one) (instruction.Else (size two + 1) ∷ flat two ++ (instruction.End ∷ flat c)) rest
-          ∙ ap (λ (is : List Instruction). flat one ++ (instruction.Else (size two + 1) ∷ is))
-              (append-assoc (flat two) (instruction.End ∷ flat c) rest))
+      (append-assoc (flat one) (instruction.Else (size two + 1) ∷ flat two ++ (instruction.End ∷ flat c)) rest
+      ∙ ap (λ (is : List Instruction). flat one ++ (instruction.Else (size two + 1) ∷ is))
+      (append-assoc (flat two) (instruction.End ∷ flat c) rest))
       ∙ open-scan part.Then d at (instruction.If x (size one + 1)) (flat one ++ more) s a f fs report refl (omega arith)
       ∙ part-agrees one first (d + 4) (suc at) s (opened part.Then at s a) (f ∷ fs) (set report at 0) more (w .0) (omega arith)
       ∙ bind-ext (judge p t (d + 4) s one) _ _ (λ r e.
-          let n = holds-fine _ (judge p t (d + 4) s one) r (report-size one (d + 4) s) e in
-          let frame : Frame = record { part = part.Else; opener = at; locks = r .locks; first = r .atomicity; before = a } in
-          let report₁ = set (sets (set report at 0) (suc at) (r .report)) at₁ 0 in
-          part-agrees two second (d₁ + 4) (suc at₁) s frame (f ∷ fs) report₁ last (w .1) (omega arith)
-          ∙ bind-ext (judge p t (d₁ + 4) s two) _ _ (λ q e′.
-              let m = holds-fine _ (judge p t (d₁ + 4) s two) q (report-size two (d₁ + 4) s) e′ in
-              let ok = same (r .locks) (q .locks) in
-              let b = join (r .atomicity) (q .atomicity) in
-              close-turn ok (SetsDiffer d₂) d₂ at₂ (q .locks) (r .locks) (q .atomicity) b frame f fs
-                (sets report₁ (suc at₁) (q .report)) (λ y. scan p t (d₂ + 4) (suc at₂) y (flat c ++ rest))
-              ∙ require-ext ok (SetsDiffer d₂) _ _ (λ _.
-                  ap (λ (bytes : List ℕ). scan p t (d₂ + 4) (suc at₂)
-                      (carried (r .locks) (composition a b) f fs (set (set bytes at₂ 0) at (reportByte b))) (flat c ++ rest))
-                    (sets-parts (set report at 0) (suc at) at₁ (r .report) (q .report) (omega arith))
-                  ∙ construct-agrees c next (d₂ + 4) (d + 4 * size (choice x one two c)) at at₂ (at + size (choice x one two c)) (r .locks) a b f fs
-                      report (r .report ++ 0 ∷ q .report) rest (w .2) (omega arith) (omega arith) (omega arith)
-                      (simp length-append (omega arith)))
-              ∙ sym (require-bind ok (SetsDiffer d₂) _ _))
-          ∙ sym (bind-assoc (judge p t (d₁ + 4) s two) _ _))
+      let n = holds-fine _ (judge p t (d + 4) s one) r (report-size one (d + 4) s) e in
+      let frame : Frame = record { part = part.Else; opener = at; locks = r .locks; first = r .atomicity; before = a } in
+      let report₁ = set (sets (set report at 0) (suc at) (r .report)) at₁ 0 in
+      part-agrees two second (d₁ + 4) (suc at₁) s frame (f ∷ fs) report₁ last (w .1) (omega arith)
+      ∙ bind-ext (judge p t (d₁ + 4) s two) _ _ (λ q e′.
+      let m = holds-fine _ (judge p t (d₁ + 4) s two) q (report-size two (d₁ + 4) s) e′ in
+      let ok = same (r .locks) (q .locks) in
+      let b = join (r .atomicity) (q .atomicity) in
+      close-turn ok (SetsDiffer d₂) d₂ at₂ (q .locks) (r .locks) (q .atomicity) b frame f fs
+      (sets report₁ (suc at₁) (q .report)) (λ y. scan p t (d₂ + 4) (suc at₂) y (flat c ++ rest))
+      ∙ require-ext ok (SetsDiffer d₂) _ _ (λ _.
+      ap (λ (bytes : List ℕ). scan p t (d₂ + 4) (suc at₂)
+      (carried (r .locks) (composition a b) f fs (set (set bytes at₂ 0) at (reportByte b))) (flat c ++ rest))
+      (sets-parts (set report at 0) (suc at) at₁ (r .report) (q .report) (omega arith))
+      ∙ construct-agrees c next (d₂ + 4) (d + 4 * size (choice x one two c)) at at₂ (at + size (choice x one two c)) (r .locks) a b f fs
+      report (r .report ++ 0 ∷ q .report) rest (w .2) (omega arith) (omega arith) (omega arith)
+      (simp length-append (omega arith)))
+      ∙ sym (require-bind ok (SetsDiffer d₂) _ _))
+      ∙ sym (bind-assoc (judge p t (d₁ + 4) s two) _ _))
       ∙ sym (bind-assoc (judge p t (d + 4) s one) _ _)
 
   -- the scan over the flat writing of code, and then over what follows, is the rules over the code, and then the scan over what follows

@@ -44,15 +44,15 @@ module _ (s : List ℕ) (l : Layout) (report₀ : List ℕ) where
 
   pub walking-start : SoundFile s l → Walking report₀ 0 0 (5 + 6 * l .variables) (l .threads)
   unfolding programOf
-  walking-start f = record
-    { count = omega arith
-    ; few = f .threads
-    ; small = omega arith
-    ; instructions = l .instructions
-    ; sections = f .sections
-    ; kept = refl
-    ; rest = refl
-    }
+  walking-start f = record {
+    count = omega arith;
+    few = f .threads;
+    small = omega arith;
+    instructions = l .instructions;
+    sections = f .sections;
+    kept = refl;
+    rest = refl;
+  }
 
   module _ (report : List ℕ) (thread at field left : ℕ) (x : Walking report thread at field left) (more : 0 < left) where
     -- one section more is left
@@ -66,28 +66,28 @@ module _ (s : List ℕ) (l : Layout) (report₀ : List ℕ) where
 
     -- one thread more
     next : (scanThread (programOf s l) thread at report (sectionAt field)
-              >>= λ left′. scanThreads (programOf s l) (thread + 1) (at + (countAt s field + 1)) left′ (sectionsFrom (left - 1) (field + 2 + 4 * countAt s field)))
-            ≡ wholeScan
+        >>= λ left′. scanThreads (programOf s l) (thread + 1) (at + (countAt s field + 1)) left′ (sectionsFrom (left - 1) (field + 2 + 4 * countAt s field)))
+        ≡ wholeScan
     unfolding scanThreads threadsAt
     next =
         let same : suc (left - 1) ≡ left = omega arith in
         let place : at + (countAt s field + 1) ≡ at + length (sectionAt field .code) + 1 =
-            omega (arith, length-instructions (l .locks) (l .variables) s (countAt s field) (field + 2)) in
+        omega (arith, length-instructions (l .locks) (l .variables) s (countAt s field) (field + 2)) in
         rw (add-one thread, place)
         (ap (λ (n : ℕ). scanThreads (programOf s l) thread at report (sectionsFrom n field)) same ∙ x .rest)
 
     pub next-thread : (report′ : List ℕ) → length report′ ≡ length report
         → fine report′ ≡ scanThread (programOf s l) thread at report (sectionAt field)
         → Walking report′ (thread + 1) (at + (countAt s field + 1)) (field + 2 + 4 * countAt s field) (left - 1)
-    next-thread report′ k e = record
-      { count = omega (arith, x .count)
-      ; few = x .few
-      ; small = omega (arith, x .small, walking-section .few)
-      ; instructions = sections-more .0
-      ; sections = sections-more .3
-      ; kept = k ∙ x .kept
-      ; rest = rw (← e) at next
-      }
+    next-thread report′ k e = record {
+      count = omega (arith, x .count);
+      few = x .few;
+      small = omega (arith, x .small, walking-section .few);
+      instructions = sections-more .0;
+      sections = sections-more .3;
+      kept = k ∙ x .kept;
+      rest = rw (← e) at next;
+    }
 
     pub ends-refused : (r : Refusal) → refused r ≡ scanThread (programOf s l) thread at report (sectionAt field) → refused r ≡ wholeScan
     ends-refused r e = rw (← e) at next

@@ -49,12 +49,12 @@ locksAfter p t d End s = fine s
 
 -- "READ and WRITE of an open variable are A". The thread is for rules that look at the other threads' code
 unfoldable pub accessAtomicity : Program → (thread v : ℕ) → (writes : Bool) → Atomicity
-accessAtomicity p t v writes = elim (kindAt p v)
-  [ Guarded g ↦ atomicity.Both
+accessAtomicity p t v writes = elim (kindAt p v) [
+  | Guarded g ↦ atomicity.Both
   | Own g ↦ atomicity.Both
   | Fixed ↦ atomicity.Both
   | Open ↦ atomicity.Atomic
-  ]
+]
 
 -- "TAKE is R, GIVE is L, .. every other plain instruction is B"
 unfoldable pub atomicityOf : Program → (thread : ℕ) → Instruction → Atomicity

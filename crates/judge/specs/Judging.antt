@@ -22,7 +22,7 @@ pub record Judged : Type 0 where
   pub atomicity : Atomicity
   pub report : List ℕ
 
--- "found at the IF's END, at AGAIN, or at the code's end"; "block is T, found at its END"
+-- "block is T"
 unfoldable pub isTop : Atomicity → Bool
 isTop a = eqb (reportByte a) (reportByte Top)
 
@@ -34,39 +34,39 @@ judge p t d s done = fine (record { locks = s; atomicity = Both; report = [] })
 judge p t d s (plain i c) = do
   s′ ← locksAfter p t d i s
   rest ← judge p t (d + 4) s′ c
-  fine (record
-    { locks = rest .locks
-    ; atomicity = composition (atomicityOf p t i) (rest .atomicity)
-    ; report = reportByte (atomicityOf p t i) ∷ rest .report
-    })
+  fine (record {
+    locks = rest .locks;
+    atomicity = composition (atomicityOf p t i) (rest .atomicity);
+    report = reportByte (atomicityOf p t i) ∷ rest .report;
+  })
 judge p t d s (choice r a b c) = do
   first ← judge p t (d + 4) s a
   second ← judge p t (d + 4 + 4 * size a + 4) s b
   require (same (first .locks) (second .locks)) (SetsDiffer (d + 4 + 4 * size a + 4 + 4 * size b))
   rest ← judge p t (d + 4 + 4 * size a + 4 + 4 * size b + 4) (first .locks) c
-  fine (record
-    { locks = rest .locks
-    ; atomicity = composition (join (first .atomicity) (second .atomicity)) (rest .atomicity)
-    ; report = reportByte (join (first .atomicity) (second .atomicity)) ∷ first .report ++ 0 ∷ second .report ++ 0 ∷ rest .report
-    })
+  fine (record {
+    locks = rest .locks;
+    atomicity = composition (join (first .atomicity) (second .atomicity)) (rest .atomicity);
+    report = reportByte (join (first .atomicity) (second .atomicity)) ∷ first .report ++ 0 ∷ second .report ++ 0 ∷ rest .report;
+  })
 judge p t d s (loop r a c) = do
   body ← judge p t (d + 4) s a
   require (same s (body .locks)) (SetsDiffer (d + 4 + 4 * size a))
   rest ← judge p t (d + 4 + 4 * size a + 4) s c
-  fine (record
-    { locks = rest .locks
-    ; atomicity = composition (closure (body .atomicity)) (rest .atomicity)
-    ; report = reportByte (closure (body .atomicity)) ∷ body .report ++ 0 ∷ rest .report
-    })
+  fine (record {
+    locks = rest .locks;
+    atomicity = composition (closure (body .atomicity)) (rest .atomicity);
+    report = reportByte (closure (body .atomicity)) ∷ body .report ++ 0 ∷ rest .report;
+  })
 judge p t d s (block a c) = do
   body ← judge p t (d + 4) s a
   require (not (isTop (body .atomicity))) (NotAtomic (d + 4 + 4 * size a))
   rest ← judge p t (d + 4 + 4 * size a + 4) (body .locks) c
-  fine (record
-    { locks = rest .locks
-    ; atomicity = composition (body .atomicity) (rest .atomicity)
-    ; report = reportByte (body .atomicity) ∷ body .report ++ 0 ∷ rest .report
-    })
+  fine (record {
+    locks = rest .locks;
+    atomicity = composition (body .atomicity) (rest .atomicity);
+    report = reportByte (body .atomicity) ∷ body .report ++ 0 ∷ rest .report;
+  })
 
 -- thread t's whole code: its report, "and then a byte for the thread's whole code". "A thread's code must end with none"
 unfoldable pub judgeThread : Program → ℕ → CodeSection → Answer (List ℕ)

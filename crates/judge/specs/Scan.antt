@@ -42,12 +42,12 @@ passing b s a f (refused r) = refusing r s a f
 
 -- an opener, whose byte stands at `at` in the report
 abbrev pub opening : Part → (at : ℕ) → LockSet → Atomicity → Turn
-opening part at s a = record
-  { step = Open
-  ; locks = s
-  ; sofar = Both
-  ; frame = record { part = part; opener = at; locks = s; first = Both; before = a }
-  }
+opening part at s a = record {
+  step = Open;
+  locks = s;
+  sofar = Both;
+  frame = record { part = part; opener = at; locks = s; first = Both; before = a };
+}
 
 -- a construct of atomicity b ends, and the lock set after it is s
 abbrev pub closing : Atomicity → LockSet → Frame → Turn
@@ -55,12 +55,12 @@ closing b s f = record { step = Close (f .opener) (reportByte b); locks = s; sof
 
 -- an ELSE: "Both parts of an IF start with the set at the IF"
 abbrev pub elsePart : LockSet → Atomicity → Frame → Turn
-elsePart s a f = record
-  { step = Replace
-  ; locks = f .locks
-  ; sofar = Both
-  ; frame = record { part = Else; opener = f .opener; locks = s; first = a; before = f .before }
-  }
+elsePart s a f = record {
+  step = Replace;
+  locks = f .locks;
+  sofar = Both;
+  frame = record { part = Else; opener = f .opener; locks = s; first = a; before = f .before };
+}
 
 -- an IF's END: both parts "must end with equal sets"
 abbrev pub choiceEnd : (d : ℕ) → LockSet → Atomicity → Frame → Turn

@@ -1,12 +1,12 @@
 // What an instruction that is no opener or closer may do, what it does to the lock set, and its atomicity (document 01, "Lock
 // discipline", "Atomicities").
+use crate::lock_set::LockSet;
+use crate::lock_set::is_held;
 use atomicity::Atomicity;
 use program::instruction::Instruction;
 use program::layout::Layout;
 use program::refusal::Refusal;
 use program::variable::Kind;
-use crate::lock_set::LockSet;
-use crate::lock_set::is_held;
 ghost use mathlib.Core.Path.{_≡_};
 ghost use mathlib.Core.Bool.{false};
 ghost use Prim.Native.Nat.{_+_, _*_, _≤_};
@@ -63,23 +63,37 @@ fn checked(good: bool, refusal: Refusal) -> Verdict
 }
 
 // A read or a write of variable v.
-fn access(s: &[u8], l: Layout, thread: usize, d: usize, v: u8, held: &[bool], writes: bool) -> Verdict
+fn access(
+    s: &[u8],
+    l: Layout,
+    thread: usize,
+    d: usize,
+    v: u8,
+    held: &[bool],
+    writes: bool,
+) -> Verdict
     requires { ⌜ 5 + 6 * l .variables ≤ length (now s) ⌝ }
-    ensures {
-        λ r. ⌜ r ≡ choose (permits (kindAt (programOf (now (s .entry)) l) v) thread (record { held = now (held .entry) }) writes)
-            Verdict.Allowed (Verdict.Refused (Access d)) ⌝
-    }
+    ensures { λ r. ⌜ r ≡ choose (permits (kindAt (programOf (now (s .entry)) l) v) thread (record { held = now (held .entry) }) writes)
+        Verdict.Allowed (Verdict.Refused (Access d)) ⌝ }
 {
-    checked(permits(kind_of(s, l, v), thread, held, writes), Refusal::Access(d))
+    checked(
+        permits(kind_of(s, l, v), thread, held, writes),
+        Refusal::Access(d),
+    )
 }
 
 // What an instruction at file offset d offends, where the set with these flags is held.
-pub fn offence(s: &[u8], l: Layout, thread: usize, d: usize, i: Instruction, held: &[bool]) -> Verdict
+pub fn offence(
+    s: &[u8],
+    l: Layout,
+    thread: usize,
+    d: usize,
+    i: Instruction,
+    held: &[bool],
+) -> Verdict
     requires { ⌜ 5 + 6 * l .variables ≤ length (now s) ⌝ }
-    ensures {
-        λ r. ⌜ judged r (moved i (record { held = now (held .entry) }))
-            ≡ locksAfter (programOf (now (s .entry)) l) thread d i (record { held = now (held .entry) }) ⌝
-    }
+    ensures { λ r. ⌜ judged r (moved i (record { held = now (held .entry) }))
+        ≡ locksAfter (programOf (now (s .entry)) l) thread d i (record { held = now (held .entry) }) ⌝ }
 {
     match i {
         Instruction::Set(_, _) => Verdict::Allowed,
@@ -147,7 +161,14 @@ pub fn move_locks(i: Instruction, locks: LockSet) -> LockSet
 }
 
 // The lock set after an instruction at file offset d, or what it offends.
-pub fn locks_after(s: &[u8], l: Layout, thread: usize, d: usize, i: Instruction, locks: LockSet) -> Locked
+pub fn locks_after(
+    s: &[u8],
+    l: Layout,
+    thread: usize,
+    d: usize,
+    i: Instruction,
+    locks: LockSet,
+) -> Locked
     requires { ⌜ 5 + 6 * l .variables ≤ length (now s) ⌝ }
     ensures { λ r. ⌜ answerOf r ≡ locksAfter (programOf (now (s .entry)) l) thread d i locks ⌝ }
 {

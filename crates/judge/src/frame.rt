@@ -1,6 +1,6 @@
 // The constructs that are open where a thread's code is scanned (document 01, "Lock discipline", "Atomicities").
-use atomicity::Atomicity;
 use crate::lock_set::LockSet;
+use atomicity::Atomicity;
 
 // Which part of which construct the scan is in.
 pub enum Part {

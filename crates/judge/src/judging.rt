@@ -1,11 +1,11 @@
 // A whole file judged (document 01, "Who can bring a number about": the sender's part, then the writer's).
+use crate::discipline::Verdict;
+use crate::scan::scan_thread;
 use program::layout::Layout;
 use program::layout::Reading;
 use program::layout::code_count;
 use program::layout::read;
 use program::refusal::Refusal;
-use crate::discipline::Verdict;
-use crate::scan::scan_thread;
 ghost use mathlib.Core.Path.{_≡_};
 ghost use Prim.Native.Nat.{_≤_};
 ghost use lib.ListN.{length};
@@ -24,10 +24,8 @@ pub enum Judging {
 // The threads of a sound file, in order.
 fn scan_threads(s: &[u8], l: Layout, report: &mut [u8]) -> Verdict
     requires { ⌜ SoundFile (now s) l ⌝ }
-    ensures {
-        λ r. ⌜ reported r (now (report .exit))
-            ≡ scanThreads (programOf (now (s .entry)) l) 0 0 (now (report .entry)) (programOf (now (s .entry)) l .threads) ⌝
-    }
+    ensures { λ r. ⌜ reported r (now (report .exit))
+        ≡ scanThreads (programOf (now (s .entry)) l) 0 0 (now (report .entry)) (programOf (now (s .entry)) l .threads) ⌝ }
 {
     let mut thread = 0;
     let mut at = 0;

@@ -1,10 +1,4 @@
 // A thread's code judged in one pass (document 01, "Lock discipline", "Atomicities").
-use atomicity::Atomicity;
-use program::instruction::Form;
-use program::instruction::form_of;
-use program::instruction::instruction_at;
-use program::layout::Layout;
-use program::refusal::Refusal;
 use crate::discipline::Verdict;
 use crate::discipline::atomicity_of;
 use crate::discipline::move_locks;
@@ -15,6 +9,12 @@ use crate::frame::Part;
 use crate::lock_set::LockSet;
 use crate::turn::Step;
 use crate::turn::take_turn;
+use atomicity::Atomicity;
+use program::instruction::Form;
+use program::instruction::form_of;
+use program::instruction::instruction_at;
+use program::layout::Layout;
+use program::refusal::Refusal;
 ghost use mathlib.Core.Path.{_≡_};
 ghost use Prim.Native.Nat.{_+_, _*_, _≤_};
 ghost use lib.ListN.{length, set};
@@ -54,13 +54,9 @@ pub fn scan_thread(
     at: usize,
     report: &mut [u8],
 ) -> Verdict
-    requires {
-        ⌜ (5 + 6 * l .variables ≤ length (now s)) × (start + 4 * count ≤ length (now s)) × (at + count ≤ 65536) ⌝
-    }
-    ensures {
-        λ r. ⌜ reported r (now (report .exit)) ≡ scanThread (programOf (now (s .entry)) l) thread at (now (report .entry))
-            (record { start = start; code = instructionsAt (l .locks) (l .variables) (now (s .entry)) count start }) ⌝
-    }
+    requires { ⌜ (5 + 6 * l .variables ≤ length (now s)) × (start + 4 * count ≤ length (now s)) × (at + count ≤ 65536) ⌝ }
+    ensures { λ r. ⌜ reported r (now (report .exit)) ≡ scanThread (programOf (now (s .entry)) l) thread at (now (report .entry))
+        (record { start = start; code = instructionsAt (l .locks) (l .variables) (now (s .entry)) count start }) ⌝ }
 {
     let whole = whole_frame();
     // The open frames, outermost first; the innermost is at `depth`.

@@ -1,16 +1,16 @@
 // One instruction passed by the scan of a thread's code.
-use atomicity::Atomicity;
-use program::instruction::Form;
-use program::instruction::Instruction;
-use program::instruction::form_of;
-use program::layout::Layout;
-use program::refusal::Refusal;
 use crate::discipline::Verdict;
 use crate::discipline::atomicity_of;
 use crate::discipline::locks_after;
 use crate::frame::Frame;
 use crate::frame::Part;
 use crate::lock_set::LockSet;
+use atomicity::Atomicity;
+use program::instruction::Form;
+use program::instruction::Instruction;
+use program::instruction::form_of;
+use program::layout::Layout;
+use program::refusal::Refusal;
 ghost use mathlib.Core.Path.{_≡_};
 ghost use Prim.Native.Nat.{_+_, _*_, _≤_};
 ghost use lib.ListN.{length};
@@ -63,10 +63,8 @@ fn passing(
     frame: Frame,
 ) -> Turn
     requires { ⌜ 5 + 6 * l .variables ≤ length (now s) ⌝ }
-    ensures {
-        λ r. ⌜ r ≡ Scan.passing (atomicityOf (programOf (now (s .entry)) l) thread i) locks sofar frame
-            (locksAfter (programOf (now (s .entry)) l) thread d i locks) ⌝
-    }
+    ensures { λ r. ⌜ r ≡ Scan.passing (atomicityOf (programOf (now (s .entry)) l) thread i) locks sofar frame
+        (locksAfter (programOf (now (s .entry)) l) thread d i locks) ⌝ }
 {
     let after = locks_after(s, l, thread, d, i, locks);
     let verdict = after.verdict;

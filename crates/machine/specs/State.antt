@@ -19,11 +19,11 @@ fresh = record { place = 0; registers = replicate 8 0 }
 
 -- "Start: initial values, locks free, places and registers 0"
 unfoldable pub start : Program → State
-start p = record
-  { variables = map (λ (v : Variable). v .initial) (p .variables)
-  ; locks = replicate (p .locks) 0
-  ; threads = map (λ (c : CodeSection). fresh) (p .threads)
-  }
+start p = record {
+  variables = map (λ (v : Variable). v .initial) (p .variables);
+  locks = replicate (p .locks) 0;
+  threads = map (λ (c : CodeSection). fresh) (p .threads);
+}
 
 -- a thread's code, and its part of the state
 unfoldable pub codeOf : Program → ℕ → List Instruction

@@ -127,11 +127,11 @@ instructionOf p t s = getD (codeOf p t) (threadOf s t .place) End
 
 -- "otherwise the thread moves"
 unfoldable pub moveBy : Instruction → ℕ → State → State
-moveBy i t s = record
-  { variables = variablesAfter (accessOf i) (threadOf s t .registers) (s .variables)
-  ; locks = locksAfter (accessOf i) t (s .locks)
-  ; threads = set (s .threads) t (threadAfter i (valueRead (accessOf i) (s .variables)) (threadOf s t))
-  }
+moveBy i t s = record {
+  variables = variablesAfter (accessOf i) (threadOf s t .registers) (s .variables);
+  locks = locksAfter (accessOf i) t (s .locks);
+  threads = set (s .threads) t (threadAfter i (valueRead (accessOf i) (s .variables)) (threadOf s t));
+}
 
 -- "place equal to the code's length: idle"; "TAKE of a lock that is not free: waiting"; "otherwise the thread moves"
 unfoldable pub outcome : Program → ℕ → State → Outcome

@@ -3,11 +3,11 @@
 -- Assumes nothing.
 use mathlib.Core.Path.{_≡_, refl, sym, ap, _∙_}
 use mathlib.Core.List.{List, [], _∷_, _++_, append-assoc}
-use Prim.Native.Nat.{ℕ, zero, suc, _+_, _-_, _*_, _/_, _≤_, _<_}
-use native.Mathlib.Nat.{sub-zero, mul-suc, add-zero, zero-add, add-suc, suc-add}
+use Prim.Native.Nat.{ℕ, zero, suc, _+_, _-_, _*_, _≤_, _<_}
+use native.Mathlib.Nat.{sub-zero, mul-suc, add-zero, zero-add}
 use native.Mathlib.Numerals.{add-one, one-add}
 use native.Mathlib.Omega.{arith}
-use lib.ListN.{length, getD, take, drop, length-append, List·getD-append}
+use lib.ListN.{length, getD, drop, length-append, List·getD-append}
 use lib.Seq.{getD-append-add, getD-drop, drop-drop}
 use Rattle.program.specs.Instruction.{decodeAt, instructionOf}
 use Rattle.program.specs.Layout.{CodeSection, instructionsAt, threadsAt, variablesAt, programOf}
@@ -17,10 +17,9 @@ use Rattle.program.specs.declared.instruction.Instruction.{Instruction}
 use Rattle.program.specs.declared.instruction.Instruction.the-variants.{End}
 use Rattle.program.specs.declared.layout.Layout.{Layout}
 use Rattle.program.proofs.Contents.{length-instructions, getD-instructions, length-variables, getD-variables, length-threads}
-use Rattle.printout.specs.Text.{ascii, decimal, lineOf}
-use Rattle.printout.specs.Line.{raw, letter, instructionLine, codeLines, threadLines, wholeLines, variableLine, variableLines, lines}
-use Rattle.printout.specs.Item.{headLines, itemLines, itemLine, wholeLine, Walk, linesFrom, wholesFrom}
-use Rattle.printout.specs.declared.print.Item.the-variants.{Thread, Code, Whole}
+use Rattle.printout.specs.Line.{instructionLine, codeLines, threadLines, wholeLines, variableLine, variableLines, lines}
+use Rattle.printout.specs.Item.{variablesLine, threadLine, headLines, itemLines, itemLine, wholeLine, Walk, linesFrom, wholesFrom}
+use Rattle.printout.specs.declared.print.Item.the-variants.{Thread, Code}
 
 -- One kind's lines
 
@@ -75,8 +74,8 @@ module _ (locks variables : ℕ) (s : List ℕ) (n t at : ℕ) (report : List �
   length-code = length-code-lines s (at + 2) 0 is report ∙ length-instructions locks variables s (countAt s at) (at + 2)
 
   pub thread-first : getD (threadLines s t (threadsAt locks variables s (suc n) at) report ++ others) 0 []
-      ≡ lineOf (raw s at 2 ∷ ascii "thread" ∷ decimal t ∷ ascii "code" ∷ decimal (countAt s at) ∷ [])
-  unfolding threadLines threadsAt
+      ≡ threadLine s at t (countAt s at)
+  unfolding threadLines threadsAt threadLine
   thread-first =
       let e : at + 2 - 2 ≡ at = omega arith in
       rw (e, length-instructions locks variables s (countAt s at) (at + 2))
@@ -213,7 +212,7 @@ module _ (s : List ℕ) (l : Layout) (report : List ℕ) where
   -- All lines by their parts
 
   lines-parts : lines s (programOf s l) report ≡ headLines s (l .variables) ++ (variableLines s 0 (programOf s l .variables) ++ itemLines s l report)
-  unfolding lines headLines itemLines programOf
+  unfolding lines variablesLine headLines itemLines programOf
   lines-parts =
       rw (length-variables (l .locks) (l .threads) s (l .variables) 5)
       (ap (λ (xs : List (List ℕ)). headLines s (l .variables) ++ xs) (append-assoc (variableLines s 0 (programOf s l .variables)) (threadLines s 0 (programOf s l .threads) report) (wholeLines 0 (programOf s l .threads) report)))

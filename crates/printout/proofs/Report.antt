@@ -1,13 +1,13 @@
 -- The lines see of the report's buffer the report alone: what stands after it changes nothing. For callers that keep the report in a
 -- longer array.
 -- Assumes nothing.
-use mathlib.Core.Path.{_≡_, refl, ap, _∙_}
+use mathlib.Core.Path.{_≡_, refl}
 use mathlib.Core.List.{List, [], _∷_, _++_}
-use Prim.Native.Nat.{ℕ, zero, suc, _+_, _-_, _*_, _≤_, _<_}
+use Prim.Native.Nat.{ℕ, zero, suc, _+_, _-_, _*_, _≤_}
 use native.Mathlib.Omega.{arith}
-use lib.ListN.{length, getD, drop, length-drop, List·getD-append}
+use lib.ListN.{length, drop, length-drop, List·getD-append}
 use lib.Seq.{drop-append-le}
-use Rattle.program.specs.Layout.{CodeSection, instructionsAt, threadsAt, programOf}
+use Rattle.program.specs.Layout.{instructionsAt, threadsAt, programOf}
 use Rattle.program.specs.Sound.{SoundSections, SoundFile, countAt}
 use Rattle.program.specs.declared.instruction.Instruction.{Instruction}
 use Rattle.program.specs.declared.layout.Layout.{Layout}

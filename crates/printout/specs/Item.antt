@@ -1,6 +1,6 @@
 -- The printout by its parts, as the code walks them. Internal: `proofs/Parts.antt` shows that the parts are the lines of `Line`, and no
 -- public call's contract names them.
-use Prim.Native.Nat.{ℕ, _+_, _-_, _*_, _≤_, _<_}
+use Prim.Native.Nat.{ℕ, _+_, _-_, _≤_, _<_}
 use mathlib.Core.Path.{_≡_}
 use mathlib.Core.List.{List, [], _∷_, _++_}
 use lib.ListN.{length, getD, drop}
@@ -13,13 +13,20 @@ use Rattle.printout.specs.Line.{raw, letter, headLine, instructionLine, 
 use Rattle.printout.specs.declared.print.Item.{Item}
 use Rattle.printout.specs.declared.print.Item.the-variants.{Thread, Code, Whole}
 
+-- the line of the variable section's length; of thread t, its code section's length field at an offset
+unfoldable pub variablesLine : List ℕ → (variables : ℕ) → List ℕ
+variablesLine s variables = lineOf (raw s 3 2 ∷ ascii "variables" ∷ decimal variables ∷ [])
+
+unfoldable pub threadLine : List ℕ → (at t count : ℕ) → List ℕ
+threadLine s at t count = lineOf (raw s at 2 ∷ ascii "thread" ∷ decimal t ∷ ascii "code" ∷ decimal count ∷ [])
+
 -- the head's four lines
 unfoldable pub headLines : List ℕ → (variables : ℕ) → List (List ℕ)
 headLines s variables =
     headLine s 0 "version"
     ∷ headLine s 1 "locks"
     ∷ headLine s 2 "threads"
-    ∷ lineOf (raw s 3 2 ∷ ascii "variables" ∷ decimal variables ∷ [])
+    ∷ variablesLine s variables
     ∷ []
 
 -- the lines after the variables'
@@ -32,7 +39,7 @@ wholeLine t from report = lineOf (ascii "thread" ∷ decimal t ∷ letter (getD 
 
 -- one of them
 unfoldable pub itemLine : List ℕ → Layout → (report : List ℕ) → Item → List ℕ
-itemLine s l report (Thread t at) = lineOf (raw s at 2 ∷ ascii "thread" ∷ decimal t ∷ ascii "code" ∷ decimal (countAt s at) ∷ [])
+itemLine s l report (Thread t at) = threadLine s at t (countAt s at)
 itemLine s l report (Code at place from) =
     instructionLine s at place (instructionOf (decodeAt (l .locks) (l .variables) s at)) (getD report from 0)
 itemLine s l report (Whole t) = getD (wholeLines 0 (programOf s l .threads) report) t []

@@ -1,6 +1,4 @@
 // Each kind of line (document 01, "Line and bench"), written from the start of a lent buffer of 48 bytes or more.
-use program::refusal::detail;
-use program::refusal::number;
 use crate::text::byte_at;
 use crate::text::copy_at;
 use crate::text::letter_at;
@@ -12,14 +10,17 @@ use crate::words::instruction_words;
 use crate::words::kind_words;
 use program::instruction::Instruction;
 use program::refusal::Refusal;
+use program::refusal::detail;
+use program::refusal::number;
 use program::variable::Kind;
 ghost use mathlib.Core.Path.{_≡_};
 ghost use mathlib.Core.List.{[], _∷_, _++_};
-ghost use Prim.Native.Nat.{_+_, _*_, _≤_, _<_};
+ghost use Prim.Native.Nat.{_+_, _≤_, _<_};
 ghost use lib.ListN.{length};
 ghost use Rattle.program.specs.Field.{byteAt};
 ghost use Rattle.printout.specs.Text.{ascii, decimal, lineOf};
 ghost use Rattle.printout.specs.Line.{raw, letter, numbered, kindWords, instructionLine, refusalLine};
+ghost use Rattle.printout.specs.Item.{variablesLine, threadLine};
 ghost use Rattle.printout.specs.Writing.{LaidWords, Printed};
 
 // A field of the head: its byte, its name, its value.
@@ -36,7 +37,7 @@ pub fn head_line(file: &[u8], at: usize, name: &[u8], out: &mut [u8]) -> usize
 // The variable section's length field and the number of variables.
 pub fn variables_line(file: &[u8], variables: usize, out: &mut [u8]) -> usize
     requires { ⌜ (5 ≤ length (now file)) × (variables < 10000) × (48 ≤ length (now out)) ⌝ }
-    ensures { λ r. ⌜ Printed (lineOf (raw (now (file .entry)) 3 2 ∷ ascii "variables" ∷ decimal variables ∷ [])) (now (out .entry)) (now (out .exit)) r ⌝ }
+    ensures { λ r. ⌜ Printed (variablesLine (now (file .entry)) variables) (now (out .entry)) (now (out .exit)) r ⌝ }
 {
     let next = raw_at(out, 0, file, 3, 2, b' ');
     let next = copy_at(out, next, b"variables", b' ');
@@ -75,7 +76,7 @@ pub fn variable_line(
 // Thread t: its code section's length field at an offset, and the number of its instructions.
 pub fn thread_line(file: &[u8], at: usize, t: usize, count: usize, out: &mut [u8]) -> usize
     requires { ⌜ (at + 2 ≤ length (now file)) × (t < 10000) × (count < 10000) × (48 ≤ length (now out)) ⌝ }
-    ensures { λ r. ⌜ Printed (lineOf (raw (now (file .entry)) at 2 ∷ ascii "thread" ∷ decimal t ∷ ascii "code" ∷ decimal count ∷ [])) (now (out .entry)) (now (out .exit)) r ⌝ }
+    ensures { λ r. ⌜ Printed (threadLine (now (file .entry)) at t count) (now (out .entry)) (now (out .exit)) r ⌝ }
 {
     let next = raw_at(out, 0, file, at, 2, b' ');
     let next = copy_at(out, next, b"thread", b' ');

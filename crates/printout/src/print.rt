@@ -12,7 +12,7 @@ use program::layout::code_count;
 use program::variable::initial_at;
 use program::variable::kind_at;
 ghost use mathlib.Core.Path.{_≡_};
-ghost use mathlib.Core.List.{List, [], _∷_, _++_};
+ghost use mathlib.Core.List.{List, []};
 ghost use Prim.Native.Nat.{ℕ, _+_, _*_, _≤_, _<_};
 ghost use lib.ListN.{length, getD};
 ghost use Rattle.program.specs.Layout.{programOf, reading};

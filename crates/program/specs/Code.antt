@@ -48,8 +48,8 @@ elseDistance End = 0
 unfoldable pub structure : ℕ → List Instruction → Code
 structure zero is = done
 structure (suc k) [] = done
-structure (suc k) (i ∷ is) = elim (formOf i)
-  [ Plain ↦ plain i (structure k is)
+structure (suc k) (i ∷ is) = elim (formOf i) [
+  | Plain ↦ plain i (structure k is)
   | If r n ↦
       let m = elseDistance (formOf (getD is (n - 1) instruction.End)) in
       choice r (structure k (take (n - 1) is)) (structure k (take (m - 1) (drop n is))) (structure k (drop (n + m) is))
@@ -58,7 +58,7 @@ structure (suc k) (i ∷ is) = elim (formOf i)
   | Again n ↦ plain i (structure k is)
   | Atomic n ↦ block (structure k (take (n - 1) is)) (structure k (drop n is))
   | End ↦ plain i (structure k is)
-  ]
+]
 
 unfoldable pub structured : List Instruction → Code
 structured is = structure (length is) is

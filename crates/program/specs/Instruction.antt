@@ -38,7 +38,7 @@ unfoldable pub decode : (locks variables op a b c : ℕ) → Decoded
 decode locks variables op a b c =
     let n = b * 256 + c in
     lookUp op
-    ( row 0x01 (isRegister a) (Set a n)
+    (row 0x01 (isRegister a) (Set a n)
     ∷ row 0x02 (isRegister a && isRegister b && isZero c) (Copy a b)
     ∷ row 0x03 (isRegister a && isRegister b && isRegister c) (Add a b c)
     ∷ row 0x04 (isRegister a && isRegister b && isRegister c) (Sub a b c)

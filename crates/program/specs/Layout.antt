@@ -58,11 +58,11 @@ pub record Program : Type 0 where
 
 -- the program of a sound file: three bytes, the variable section, the code sections
 unfoldable pub programOf : List ℕ → Layout → Program
-programOf s l = record
-  { locks = l .locks
-  ; variables = variablesAt (l .locks) (l .threads) s (l .variables) 5
-  ; threads = threadsAt (l .locks) (l .variables) s (l .threads) (5 + 6 * l .variables)
-  }
+programOf s l = record {
+  locks = l .locks;
+  variables = variablesAt (l .locks) (l .threads) s (l .variables) 5;
+  threads = threadsAt (l .locks) (l .variables) s (l .threads) (5 + 6 * l .variables);
+}
 
 -- Reading
 

@@ -28,7 +28,7 @@ returns : tie.Need-returns
 returns c =
     let args = c .before .before .before .before .before .before .before .before .before .args in
     let answered = run-refused (args .file .now) (args .list .now) (args .out .now) _
-      (as-refused _ _ _ _ (c .before .judging .given .1) (c .before .before .before .before .judge-file .ensures)) in
+    (as-refused _ _ _ _ (c .before .judging .given .1) (c .before .before .before .before .judge-file .ensures)) in
     (answered .0, (answered .1, demand3 (args .file .now)))
 
 same-length : tie.Need-same-length

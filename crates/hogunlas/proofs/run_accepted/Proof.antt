@@ -41,10 +41,11 @@ returns-2 c =
 
 run-list-requires : tie.Need-run-list-requires
 run-list-requires c κs =
-    let start = c .before .before .before .before .before .before .before .before .before .before .before .before in
-    (opened-sound (start .pre)
-    , every-entry (start .args .l) (start .args .list .now) (sym (c .before .before .before .before .before .before .before .first-bad-thread .ensures) ∙ c .before .before .before .before .before .enum-told .given .1)
-    , c .before .if2 .left)
+    let start = c .before .before .before .before .before .before .before .before .before .before .before .before in (
+      opened-sound (start .pre),
+      every-entry (start .args .l) (start .args .list .now) (sym (c .before .before .before .before .before .before .before .first-bad-thread .ensures) ∙ c .before .before .before .before .before .enum-told .given .1),
+      c .before .if2 .left,
+    )
 
 returns-3 : tie.Need-returns-3
 returns-3 c =

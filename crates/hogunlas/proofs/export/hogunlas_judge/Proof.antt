@@ -34,10 +34,11 @@ same-length-2 : tie.Need-same-length-2
 same-length-2 c = search needs
 
 returns-2 : tie.Need-returns-2
-returns-2 c =
-    (judged-refused (c .before .number .result) (c .detail .result) (c .before .before .before .judged2 .given .0 .0) (c .before .number .ensures .0) (c .detail .ensures)
-    ∙ ap judgedNumbers (sym (c .before .before .before .judged2 .given .1) ∙ c .before .before .before .before .before .before .before .judge .ensures .0)
-    , c .before .before .before .before .before .before .before .judge .ensures .1)
+returns-2 c = (
+  judged-refused (c .before .number .result) (c .detail .result) (c .before .before .before .judged2 .given .0 .0) (c .before .number .ensures .0) (c .detail .ensures)
+      ∙ ap judgedNumbers (sym (c .before .before .before .judged2 .given .1) ∙ c .before .before .before .before .before .before .before .judge .ensures .0),
+  c .before .before .before .before .before .before .before .judge .ensures .1,
+)
 
 pub hogunlas-judge-spec : {M : Type 1} → statement M
 hogunlas-judge-spec =

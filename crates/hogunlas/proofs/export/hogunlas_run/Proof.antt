@@ -34,10 +34,11 @@ same-length-2 : tie.Need-same-length-2
 same-length-2 c = search needs
 
 returns-2 : tie.Need-returns-2
-returns-2 c =
-    (ran-refused (c .before .number .result) (c .detail .result) (c .before .before .before .ran2 .given .0 .0) (c .before .number .ensures .0) (c .detail .ensures)
-    ∙ ap ranNumbers (sym (c .before .before .before .ran2 .given .1) ∙ c .before .before .before .before .before .before .before .run .ensures .0)
-    , (c .before .before .before .before .before .before .before .run .ensures .1 .0, c .before .before .before .before .before .before .before .run .ensures .1 .1))
+returns-2 c = (
+  ran-refused (c .before .number .result) (c .detail .result) (c .before .before .before .ran2 .given .0 .0) (c .before .number .ensures .0) (c .detail .ensures)
+      ∙ ap ranNumbers (sym (c .before .before .before .ran2 .given .1) ∙ c .before .before .before .before .before .before .before .run .ensures .0),
+  (c .before .before .before .before .before .before .before .run .ensures .1 .0, c .before .before .before .before .before .before .before .run .ensures .1 .1),
+)
 
 pub hogunlas-run-spec : {M : Type 1} → statement M
 hogunlas-run-spec =

@@ -49,10 +49,11 @@ loop-again c =
     let l = c .before .before .before .loop in
     let good : ℕ → Bool = λ k. ltb (getD (a .list .now) k 0) (a .threads) in
     let fine : good (l .i) ≡ true = lt-ltb _ _ (c .if1 .left) in
-    let less : length (a .list .now) - (l .i + 1) ≡ length (a .list .now) - l .i - 1 = omega arith in
-    (omega arith
-    , rw less
-    (sym (bad-next good 1 (length (a .list .now) - l .i) (l .i) (omega (arith, c .before .before .loop-test .taken)) fine) ∙ l .inv .1))
+    let less : length (a .list .now) - (l .i + 1) ≡ length (a .list .now) - l .i - 1 = omega arith in (
+      omega arith,
+      rw less
+          (sym (bad-next good 1 (length (a .list .now) - l .i) (l .i) (omega (arith, c .before .before .loop-test .taken)) fine) ∙ l .inv .1),
+    )
 
 returns-2 : tie.Need-returns-2 Inv-loop μ-loop
 returns-2 c =

@@ -1,47 +1,36 @@
+-- `access_atomicity` meets its contract. Assumes nothing.
 use borrow.Author.Needs.{needs}
 use Rattle.judge.specs.Discipline.{accessAtomicity}
 use Rattle.judge.proofs.discipline.access_atomicity.Statement.{statement}
 use Rattle.judge.proofs.discipline.access_atomicity.Tie as tie
-use Rattle.judge.proofs.discipline.access_atomicity.Reads as reads
-use Rattle.judge.proofs.discipline.access_atomicity.Lts as lts
-use Rattle.judge.proofs.discipline.kind_of.Reads as kind-of-reads
 
--- src/discipline.rt:124:9
 kind-of-requires : tie.Need-kind-of-requires
 kind-of-requires c κs = search needs
 
--- src/discipline.rt:126:29
 enum-told : tie.Need-enum-told
 enum-told c = search needs
 
--- src/discipline.rt:127:25
 enum-told-2 : tie.Need-enum-told-2
 enum-told-2 c = search needs
 
--- src/discipline.rt:128:24
 enum-told-3 : tie.Need-enum-told-3
 enum-told-3 c = search needs
 
--- src/discipline.rt:129:23
 enum-told-4 : tie.Need-enum-told-4
 enum-told-4 c = search needs
 
--- src/discipline.rt:120:1
 returns : tie.Need-returns
 unfolding accessAtomicity
 returns c = rw (← c .before .before .kind-of .ensures, c .enum-told .given .1, accessAtomicity)
 
--- src/discipline.rt:120:1
 returns-2 : tie.Need-returns-2
 unfolding accessAtomicity
 returns-2 c = rw (← c .before .before .kind-of .ensures, c .enum-told2 .given .1, accessAtomicity)
 
--- src/discipline.rt:120:1
 returns-3 : tie.Need-returns-3
 unfolding accessAtomicity
 returns-3 c = rw (← c .before .before .kind-of .ensures, c .enum-told3 .given .1, accessAtomicity)
 
--- src/discipline.rt:120:1
 returns-4 : tie.Need-returns-4
 unfolding accessAtomicity
 returns-4 c = rw (← c .before .before .kind-of .ensures, c .enum-told4 .given .1, accessAtomicity)

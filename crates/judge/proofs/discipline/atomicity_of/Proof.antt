@@ -1,150 +1,116 @@
+-- `atomicity_of` meets its contract. Assumes nothing.
 use borrow.Author.Needs.{needs}
 use Rattle.judge.specs.Discipline.{atomicityOf}
 use Rattle.judge.proofs.discipline.atomicity_of.Statement.{statement}
 use Rattle.judge.proofs.discipline.atomicity_of.Tie as tie
-use Rattle.judge.proofs.discipline.atomicity_of.Reads as reads
-use Rattle.judge.proofs.discipline.atomicity_of.Lts as lts
-use Rattle.judge.proofs.discipline.access_atomicity.Reads as access-atomicity-reads
 
--- src/discipline.rt:139:35
 enum-told : tie.Need-enum-told
 enum-told c = search needs
 
--- src/discipline.rt:140:36
 enum-told-2 : tie.Need-enum-told-2
 enum-told-2 c = search needs
 
--- src/discipline.rt:141:38
 enum-told-3 : tie.Need-enum-told-3
 enum-told-3 c = search needs
 
--- src/discipline.rt:142:38
 enum-told-4 : tie.Need-enum-told-4
 enum-told-4 c = search needs
 
--- src/discipline.rt:143:39
 enum-told-5 : tie.Need-enum-told-5
 enum-told-5 c = search needs
 
--- src/discipline.rt:144:30
 enum-known-i : tie.Need-enum-known-i
 enum-known-i c = search needs
 
--- src/discipline.rt:144:36
 access-atomicity-requires : tie.Need-access-atomicity-requires
 access-atomicity-requires c κs = search needs
 
--- src/discipline.rt:145:31
 enum-known-i-2 : tie.Need-enum-known-i-2
 enum-known-i-2 c = search needs
 
--- src/discipline.rt:145:37
 access-atomicity-requires-2 : tie.Need-access-atomicity-requires-2
 access-atomicity-requires-2 c κs = search needs
 
--- src/discipline.rt:146:33
 enum-told-6 : tie.Need-enum-told-6
 enum-told-6 c = search needs
 
--- src/discipline.rt:147:33
 enum-told-7 : tie.Need-enum-told-7
 enum-told-7 c = search needs
 
--- src/discipline.rt:148:34
 enum-told-8 : tie.Need-enum-told-8
 enum-told-8 c = search needs
 
--- src/discipline.rt:149:33
 enum-told-9 : tie.Need-enum-told-9
 enum-told-9 c = search needs
 
--- src/discipline.rt:150:37
 enum-told-10 : tie.Need-enum-told-10
 enum-told-10 c = search needs
 
--- src/discipline.rt:151:34
 enum-told-11 : tie.Need-enum-told-11
 enum-told-11 c = search needs
 
--- src/discipline.rt:152:35
 enum-told-12 : tie.Need-enum-told-12
 enum-told-12 c = search needs
 
--- src/discipline.rt:153:29
 enum-told-13 : tie.Need-enum-told-13
 enum-told-13 c = search needs
 
--- src/discipline.rt:134:1
 returns : tie.Need-returns
 unfolding atomicityOf
 returns c = rw (c .enum-told .given .1)
 
--- src/discipline.rt:134:1
 returns-2 : tie.Need-returns-2
 unfolding atomicityOf
 returns-2 c = rw (c .enum-told2 .given .1)
 
--- src/discipline.rt:134:1
 returns-3 : tie.Need-returns-3
 unfolding atomicityOf
 returns-3 c = rw (c .enum-told3 .given .1)
 
--- src/discipline.rt:134:1
 returns-4 : tie.Need-returns-4
 unfolding atomicityOf
 returns-4 c = rw (c .enum-told4 .given .1)
 
--- src/discipline.rt:134:1
 returns-5 : tie.Need-returns-5
 unfolding atomicityOf
 returns-5 c = rw (c .enum-told5 .given .1)
 
--- src/discipline.rt:134:1
 returns-6 : tie.Need-returns-6
 unfolding atomicityOf
 returns-6 c = rw (c .access-atomicity .ensures, c .before .before .i .given .1)
 
--- src/discipline.rt:134:1
 returns-7 : tie.Need-returns-7
 unfolding atomicityOf
 returns-7 c = rw (c .access-atomicity2 .ensures, c .before .before .i2 .given .1)
 
--- src/discipline.rt:134:1
 returns-8 : tie.Need-returns-8
 unfolding atomicityOf
 returns-8 c = rw (c .enum-told6 .given .1)
 
--- src/discipline.rt:134:1
 returns-9 : tie.Need-returns-9
 unfolding atomicityOf
 returns-9 c = rw (c .enum-told7 .given .1)
 
--- src/discipline.rt:134:1
 returns-10 : tie.Need-returns-10
 unfolding atomicityOf
 returns-10 c = rw (c .enum-told8 .given .1)
 
--- src/discipline.rt:134:1
 returns-11 : tie.Need-returns-11
 unfolding atomicityOf
 returns-11 c = rw (c .enum-told9 .given .1)
 
--- src/discipline.rt:134:1
 returns-12 : tie.Need-returns-12
 unfolding atomicityOf
 returns-12 c = rw (c .enum-told10 .given .1)
 
--- src/discipline.rt:134:1
 returns-13 : tie.Need-returns-13
 unfolding atomicityOf
 returns-13 c = rw (c .enum-told11 .given .1)
 
--- src/discipline.rt:134:1
 returns-14 : tie.Need-returns-14
 unfolding atomicityOf
 returns-14 c = rw (c .enum-told12 .given .1)
 
--- src/discipline.rt:134:1
 returns-15 : tie.Need-returns-15
 unfolding atomicityOf
 returns-15 c = rw (c .enum-told13 .given .1)

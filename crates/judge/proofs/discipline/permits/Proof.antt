@@ -1,52 +1,40 @@
+-- `permits` meets its contract. Assumes nothing.
 use borrow.Author.Needs.{needs}
 use Rattle.judge.specs.Discipline.{permits}
 use Rattle.judge.specs.LockSet.{holds}
 use Rattle.judge.proofs.discipline.permits.Statement.{statement}
 use Rattle.judge.proofs.discipline.permits.Tie as tie
-use Rattle.judge.proofs.discipline.permits.Reads as reads
-use Rattle.judge.proofs.discipline.permits.Lts as lts
-use Rattle.judge.proofs.lock_set.is_held.Reads as is-held-reads
 
--- src/discipline.rt:49:23
 enum-known-kind : tie.Need-enum-known-kind
 enum-known-kind c = search needs
 
--- src/discipline.rt:49:29
 is-held-requires : tie.Need-is-held-requires
 is-held-requires c κs = search needs
 
--- src/discipline.rt:50:19
 enum-known-kind-2 : tie.Need-enum-known-kind-2
 enum-known-kind-2 c = search needs
 
--- src/discipline.rt:50:26
 cast-result : tie.Need-cast-result
 cast-result c = search needs
 
--- src/discipline.rt:51:24
 enum-told : tie.Need-enum-told
 enum-told c = search needs
 
--- src/discipline.rt:52:23
 enum-told-2 : tie.Need-enum-told-2
 enum-told-2 c = search needs
 
--- src/discipline.rt:45:1
 returns : tie.Need-returns
 unfolding permits holds
 returns c = rw (c .is-held .ensures, c .before .before .kind .given .1)
 
--- src/discipline.rt:45:1
 returns-2 : tie.Need-returns-2
 unfolding permits
 returns-2 c = rw (c .before .kind2 .given .1)
 
--- src/discipline.rt:45:1
 returns-3 : tie.Need-returns-3
 unfolding permits
 returns-3 c = rw (c .enum-told .given .1)
 
--- src/discipline.rt:45:1
 returns-4 : tie.Need-returns-4
 unfolding permits
 returns-4 c = rw (c .enum-told2 .given .1)

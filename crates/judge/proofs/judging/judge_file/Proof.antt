@@ -1,62 +1,47 @@
+-- `judge_file` meets its contract. Assumes nothing.
 use borrow.Author.Needs.{needs}
 use native.Mathlib.Omega.{arith}
-use mathlib.Core.Path.{_≡_, sym, _∙_}
+use mathlib.Core.Path.{sym, _∙_}
 use Rattle.program.proofs.Sound.{sound-file}
 use Rattle.judge.proofs.Accepting.{counts-small, read-refused, judged-refused, judged-fine}
 use Rattle.judge.proofs.judging.judge_file.Statement.{statement}
 use Rattle.judge.proofs.judging.judge_file.Tie as tie
-use Rattle.judge.proofs.judging.judge_file.Reads as reads
-use Rattle.judge.proofs.judging.judge_file.Lts as lts
-use Rattle.judge.proofs.judging.scan_threads.Reads as scan-threads-reads
-use Rattle.program.proofs.layout.read.Reads as read-reads
 
--- src/judging.rt:56:9
 read-requires : tie.Need-read-requires
 read-requires c κs = search needs
 
--- src/judging.rt:58:26
 enum-known-reading : tie.Need-enum-known-reading
 enum-known-reading c = search needs
 
--- src/judging.rt:59:24
 enum-known-reading-2 : tie.Need-enum-known-reading-2
 enum-known-reading-2 c = search needs
 
--- src/judging.rt:60:17
 scan-threads-requires : tie.Need-scan-threads-requires
 scan-threads-requires c κs = sound-file (c .before .before .before .before .before .before .before .args .file .now) _ (sym (c .before .before .before .before .read .ensures) ∙ c .before .before .reading2 .given .1)
 
--- src/judging.rt:62:34
 enum-known-verdict : tie.Need-enum-known-verdict
 enum-known-verdict c = search needs
 
--- src/judging.rt:63:58
 enum-told : tie.Need-enum-told
 enum-told c = search needs
 
--- src/judging.rt:63:58
 add-t12 : tie.Need-add-t12
 add-t12 c = omega (arith, counts-small (c .before .before .before .before .before .before .before .before .before .before .before .before .before .args .file .now) (c .before .before .before .before .before .before .before .before .reading2 .given .0 .0) (sym (c .before .before .before .before .before .before .before .before .before .before .read .ensures) ∙ c .before .before .before .before .before .before .before .before .reading2 .given .1))
 
--- src/judging.rt:52:1
 returns : tie.Need-returns
 returns c = read-refused (c .before .before .before .before .before .before .args .file .now) _ (sym (c .before .before .before .read .ensures) ∙ c .before .reading .given .1)
 
--- src/judging.rt:52:1
 same-length : tie.Need-same-length
 same-length c = search needs
 
--- src/judging.rt:52:1
 returns-2 : tie.Need-returns-2
 returns-2 c =
     judged-refused (c .before .before .before .before .before .before .before .before .before .before .before .before .before .args .file .now) (c .before .before .before .before .before .before .before .before .reading2 .given .0 .0) (sym (c .before .before .before .before .before .before .before .before .before .before .read .ensures) ∙ c .before .before .before .before .before .before .before .before .reading2 .given .1) (c .before .before .before .before .before .before .before .before .before .before .before .before .before .args .report .now) _
     (rw (c .before .verdict .given .1) at (c .before .before .before .before .before .scan-threads .ensures))
 
--- src/judging.rt:52:1
 same-length-2 : tie.Need-same-length-2
 same-length-2 c = search needs
 
--- src/judging.rt:52:1
 returns-3 : tie.Need-returns-3
 returns-3 c =
     judged-fine (c .before .before .before .before .before .before .before .before .before .before .before .before .before .args .file .now) (c .before .before .before .before .before .before .before .before .reading2 .given .0 .0) (sym (c .before .before .before .before .before .before .before .before .before .before .read .ensures) ∙ c .before .before .before .before .before .before .before .before .reading2 .given .1) (c .before .before .before .before .before .before .before .before .before .before .before .before .before .args .report .now) _ (c .before .before .before .before .before .before .before .before .before .before .before .before .before .pre)

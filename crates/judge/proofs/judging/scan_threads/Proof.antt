@@ -1,6 +1,7 @@
+-- `scan_threads` meets its contract. Assumes nothing.
 use borrow.Author.Needs.{needs}
 use native.Mathlib.Omega.{arith}
-use mathlib.Core.Path.{_≡_, refl, sym, _∙_, ap}
+use mathlib.Core.Path.{_≡_, _∙_, ap}
 use Prim.Native.Nat.{ℕ, _+_}
 use Rattle.program.specs.Layout.{programOf, instructionsAt}
 use Rattle.program.specs.Sound.{SoundSection}
@@ -8,10 +9,6 @@ use Rattle.judge.specs.Scan.{reported, scanThread}
 use Rattle.judge.proofs.ThreadLoop.{Walking, sectionAt, walking-start, walking-section, next-thread, ends-refused, ends-threads}
 use Rattle.judge.proofs.judging.scan_threads.Statement.{statement}
 use Rattle.judge.proofs.judging.scan_threads.Tie as tie
-use Rattle.judge.proofs.judging.scan_threads.Reads as reads
-use Rattle.judge.proofs.judging.scan_threads.Lts as lts
-use Rattle.judge.proofs.scan.scan_thread.Reads as scan-thread-reads
-use Rattle.program.proofs.layout.code_count.Reads as code-count-reads
 
 abbrev Inv-loop : tie.InvT-loop
 Inv-loop s l report₀ thread₀ at₀ field₀ left₀ report thread at field left = Walking s l report₀ report thread at field left
@@ -22,133 +19,114 @@ abbrev μ-loop : tie.MeasureT-loop
 -- the section that is next
 next-section : (c : tie.In-loop Inv-loop μ-loop)
     → let args = c .before .before .before .before .before .args in
-      SoundSection (args .s .now) (args .l .locks) (args .l .variables) (c .before .loop .field)
+    SoundSection (args .s .now) (args .l .locks) (args .l .variables) (c .before .loop .field)
 next-section c =
     let args = c .before .before .before .before .before .args in
     let loop = c .before .loop in
     walking-section (args .s .now) (args .l) (args .report .now) (loop .report) (loop .thread) (loop .at) (loop .field) (loop .left)
-      (loop .inv) (c .loop-test .taken)
+    (loop .inv) (c .loop-test .taken)
 
 -- the thread that was scanned
 scanned : (m : tie.After-scan-thread Inv-loop μ-loop)
     → let args = m .before .before .before .before .before .before .before .before .args in
-      let loop = m .before .before .before .before .loop in
-      reported (m .scan-thread .result) (m .scan-thread .last .1 .1 .1 .1 .1 .1 .0)
-      ≡ scanThread (programOf (args .s .now) (args .l)) (loop .thread) (loop .at) (loop .report) (sectionAt (args .s .now) (args .l) (args .report .now) (loop .field))
+    let loop = m .before .before .before .before .loop in
+    reported (m .scan-thread .result) (m .scan-thread .last .1 .1 .1 .1 .1 .1 .0)
+    ≡ scanThread (programOf (args .s .now) (args .l)) (loop .thread) (loop .at) (loop .report) (sectionAt (args .s .now) (args .l) (args .report .now) (loop .field))
 scanned m =
     let args = m .before .before .before .before .before .before .before .before .args in
     let loop = m .before .before .before .before .loop in
     m .scan-thread .ensures
     ∙ ap (λ (n : ℕ). scanThread (programOf (args .s .now) (args .l)) (loop .thread) (loop .at) (loop .report)
-          (record { start = loop .field + 2; code = instructionsAt (args .l .locks) (args .l .variables) (args .s .now) n (loop .field + 2) }))
-        (m .before .before .code-count .ensures)
+    (record { start = loop .field + 2; code = instructionsAt (args .l .locks) (args .l .variables) (args .s .now) n (loop .field + 2) }))
+    (m .before .before .code-count .ensures)
 
--- src/judging.rt:34:25
 mul-field : tie.Need-mul-field Inv-loop μ-loop
 mul-field c = omega (arith, c .before .before .before .pre .variables)
 
--- src/judging.rt:34:21
 add-field : tie.Need-add-field Inv-loop μ-loop
 add-field c = omega (arith, c .before .before .before .pre .variables)
 
--- src/judging.rt:36:5
 loop-holds : tie.Need-loop-holds Inv-loop μ-loop
 loop-holds c = walking-start (c .before .before .before .args .s .now) (c .before .before .before .args .l) (c .before .before .before .args .report .now) (c .before .before .before .pre)
 
--- src/judging.rt:37:13
 code-count-requires : tie.Need-code-count-requires Inv-loop μ-loop
 code-count-requires c κs = next-section c .head
 
--- src/judging.rt:38:21
 add-start : tie.Need-add-start Inv-loop μ-loop
 add-start c = omega (arith, (next-section (c .before)) .head, c .before .before .before .before .before .before .good .0 .0)
 
--- src/judging.rt:39:13
 scan-thread-requires : tie.Need-scan-thread-requires Inv-loop μ-loop
 scan-thread-requires c κs =
     let x = c .before .before .before .loop .inv in
     let section = next-section (c .before .before) in
     rw (c .before .code-count .ensures) (c .before .before .before .before .before .before .before .pre .section, section .whole, omega (arith, x .small, x .count, x .few, section .few))
 
--- src/judging.rt:40:33
 enum-known-verdict : tie.Need-enum-known-verdict Inv-loop μ-loop
 enum-known-verdict c = search needs
 
--- src/judging.rt:41:13
 same-length : tie.Need-same-length Inv-loop μ-loop
 same-length c = c .before .before .before .before .before .scan-thread .kept .1 .1 .1 .1 .1 .1 .0 ∙ c .before .before .before .before .before .before .before .before .before .loop .inv .kept
 
--- src/judging.rt:41:13
 returns : tie.Need-returns Inv-loop μ-loop
 returns c =
     let args = c .before .before .before .before .before .before .before .before .before .before .before .before .before .args in
     let loop = c .before .before .before .before .before .before .before .before .before .loop in
     ends-refused (args .s .now) (args .l) (args .report .now) (loop .report) (loop .thread) (loop .at) (loop .field) (loop .left) (loop .inv) (c .before .before .before .before .before .before .before .before .loop-test .taken)
-      _ (rw (c .before .verdict .given .1) at (scanned (c .before .before .before .before .before)))
+    _ (rw (c .before .verdict .given .1) at (scanned (c .before .before .before .before .before)))
 
 enum-told : tie.Need-enum-told Inv-loop μ-loop
 enum-told c = search needs
 
--- src/judging.rt:43:9
 add-thread : tie.Need-add-thread Inv-loop μ-loop
 add-thread c =
     let x = c .before .before .before .before .before .before .before .before .loop .inv in
     let section = next-section (c .before .before .before .before .before .before .before) in
     omega (arith, x .small, x .count, x .few, section .few, section .whole, c .before .before .before .before .before .before .code-count .ensures, c .before .before .before .before .before .before .before .before .before .before .before .before .good .0 .0)
 
--- src/judging.rt:44:15
 add-at : tie.Need-add-at Inv-loop μ-loop
 add-at c =
     let x = c .before .before .before .before .before .before .before .before .loop .inv in
     let section = next-section (c .before .before .before .before .before .before .before) in
     omega (arith, x .small, x .count, x .few, section .few, section .whole, c .before .before .before .before .before .before .code-count .ensures, c .before .before .before .before .before .before .before .before .before .before .before .before .good .0 .0)
 
--- src/judging.rt:44:9
 add-at-2 : tie.Need-add-at-2 Inv-loop μ-loop
 add-at-2 c =
     let x = c .before .before .before .before .before .before .before .before .loop .inv in
     let section = next-section (c .before .before .before .before .before .before .before) in
     omega (arith, x .small, x .count, x .few, section .few, section .whole, c .before .before .before .before .before .before .code-count .ensures, c .before .before .before .before .before .before .before .before .before .before .before .before .good .0 .0)
 
--- src/judging.rt:45:25
 mul-field-2 : tie.Need-mul-field-2 Inv-loop μ-loop
 mul-field-2 c =
     let x = c .before .before .before .before .before .before .before .before .loop .inv in
     let section = next-section (c .before .before .before .before .before .before .before) in
     omega (arith, x .small, x .count, x .few, section .few, section .whole, c .before .before .before .before .before .before .code-count .ensures, c .before .before .before .before .before .before .before .before .before .before .before .before .good .0 .0)
 
--- src/judging.rt:45:17
 add-field-2 : tie.Need-add-field-2 Inv-loop μ-loop
 add-field-2 c =
     let x = c .before .before .before .before .before .before .before .before .loop .inv in
     let section = next-section (c .before .before .before .before .before .before .before) in
     omega (arith, x .small, x .count, x .few, section .few, section .whole, c .before .before .before .before .before .before .code-count .ensures, c .before .before .before .before .before .before .before .before .before .before .before .before .good .0 .0)
 
--- src/judging.rt:46:9
 sub-left : tie.Need-sub-left Inv-loop μ-loop
 sub-left c =
     let x = c .before .before .before .before .before .before .before .before .loop .inv in
     let section = next-section (c .before .before .before .before .before .before .before) in
     omega (arith, x .small, x .count, x .few, section .few, section .whole, c .before .before .before .before .before .before .code-count .ensures, c .before .before .before .before .before .before .before .before .before .before .before .before .good .0 .0)
 
--- src/judging.rt:36:5
 loop-less : tie.Need-loop-less Inv-loop μ-loop
 loop-less c = omega arith
 
--- src/judging.rt:36:5
 loop-again : tie.Need-loop-again Inv-loop μ-loop
 loop-again c =
     let args = c .before .before .before .before .before .before .before .before .before .before .before .before .args in
     let loop = c .before .before .before .before .before .before .before .before .loop in
     rw (c .before .before .before .before .before .before .code-count .ensures)
     (next-thread (args .s .now) (args .l) (args .report .now) (loop .report) (loop .thread) (loop .at) (loop .field) (loop .left) (loop .inv) (c .before .before .before .before .before .before .before .loop-test .taken)
-      (c .before .before .before .before .scan-thread .last .1 .1 .1 .1 .1 .1 .0) (c .before .before .before .before .scan-thread .kept .1 .1 .1 .1 .1 .1 .0) (rw (c .enum-told .given .1) at (scanned (c .before .before .before .before))))
+    (c .before .before .before .before .scan-thread .last .1 .1 .1 .1 .1 .1 .0) (c .before .before .before .before .scan-thread .kept .1 .1 .1 .1 .1 .1 .0) (rw (c .enum-told .given .1) at (scanned (c .before .before .before .before))))
 
--- src/judging.rt:25:1
 same-length-2 : tie.Need-same-length-2 Inv-loop μ-loop
 same-length-2 c = c .before .loop .inv .kept
 
--- src/judging.rt:25:1
 returns-2 : tie.Need-returns-2 Inv-loop μ-loop
 returns-2 c =
     let args = c .before .before .before .before .before .args in

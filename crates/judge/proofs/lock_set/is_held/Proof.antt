@@ -1,21 +1,17 @@
+-- `is_held` meets its contract. Assumes nothing.
 use borrow.Author.Needs.{needs}
 use mathlib.Core.Path.{sym}
 use mathlib.Core.Bool.{false}
 use lib.ListN.{List·getD-eq-default}
 use Rattle.judge.proofs.lock_set.is_held.Statement.{statement}
 use Rattle.judge.proofs.lock_set.is_held.Tie as tie
-use Rattle.judge.proofs.lock_set.is_held.Reads as reads
-use Rattle.judge.proofs.lock_set.is_held.Lts as lts
 
--- src/lock_set.rt:24:16
 shared-slice-read-result : tie.Need-shared-slice-read-result
 shared-slice-read-result c = search needs
 
--- src/lock_set.rt:24:9
 returns : tie.Need-returns
 returns c = search needs
 
--- src/lock_set.rt:19:1
 returns-2 : tie.Need-returns-2
 returns-2 c = sym (List·getD-eq-default (c .before .args .held .now) false (c .if1 .left))
 

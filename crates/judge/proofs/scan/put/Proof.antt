@@ -1,24 +1,19 @@
+-- `put` meets its contract. Assumes nothing.
 use borrow.Author.Needs.{needs}
 use mathlib.Core.Path.{sym}
 use lib.Seq.{set-out}
 use Rattle.judge.proofs.scan.put.Statement.{statement}
 use Rattle.judge.proofs.scan.put.Tie as tie
-use Rattle.judge.proofs.scan.put.Reads as reads
-use Rattle.judge.proofs.scan.put.Lts as lts
 
--- src/scan.rt:23:9
 slice-write-report : tie.Need-slice-write-report
 slice-write-report c = search needs
 
--- src/scan.rt:19:1
 same-length : tie.Need-same-length
 same-length c = search needs
 
--- src/scan.rt:19:1
 returns : tie.Need-returns
 returns c = search needs
 
--- src/scan.rt:19:1
 returns-2 : tie.Need-returns-2
 returns-2 c = sym (set-out (c .before .args .report .now) (c .before .args .at) (c .before .args .byte) (c .if1 .left))
 

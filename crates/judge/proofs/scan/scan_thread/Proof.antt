@@ -1,31 +1,12 @@
+-- `scan_thread` meets its contract. Assumes nothing.
 use borrow.Author.Needs.{needs}
 use native.Mathlib.Omega.{arith}
-use mathlib.Core.Path.{_≡_, refl, sym, _∙_, ap}
+use mathlib.Core.Path.{sym, _∙_, ap}
 use Rattle.program.specs.Choice.{fine}
-use Rattle.program.specs.Instruction.{decodeAt, instructionOf}
-use Rattle.program.specs.Layout.{programOf}
-use Rattle.program.specs.declared.instruction.Instruction.{Instruction}
 use Rattle.judge.specs.LockSet.{same}
-use Rattle.judge.specs.Scan.{turn}
-use Rattle.judge.specs.declared.lock_set.LockSet.{LockSet}
 use Rattle.judge.proofs.ScanLoop.{Scanning, scanning-start, next-passed, ends-plain, next-pass, next-open, next-replace, next-close, ends-refuse, ends-full, ends-bare, ends-fine, ends-held, ends-refused}
 use Rattle.judge.proofs.scan.scan_thread.Statement.{statement}
 use Rattle.judge.proofs.scan.scan_thread.Tie as tie
-use Rattle.judge.proofs.scan.scan_thread.Reads as reads
-use Rattle.judge.proofs.scan.scan_thread.Lts as lts
-use Rattle.atomicity.proofs.Atomicity.report_byte.Reads as report-byte-reads
-use Rattle.atomicity.proofs.Atomicity.then.Reads as then-reads
-use Rattle.judge.proofs.discipline.atomicity_of.Reads as atomicity-of-reads
-use Rattle.judge.proofs.discipline.move_locks.Reads as move-locks-reads
-use Rattle.judge.proofs.discipline.moves.Reads as moves-reads
-use Rattle.judge.proofs.discipline.offence.Reads as offence-reads
-use Rattle.judge.proofs.lock_set.LockSet.empty.Reads as empty-reads
-use Rattle.judge.proofs.lock_set.LockSet.same.Reads as same-reads
-use Rattle.judge.proofs.scan.put.Reads as put-reads
-use Rattle.judge.proofs.scan.whole_frame.Reads as whole-frame-reads
-use Rattle.judge.proofs.turn.take_turn.Reads as take-turn-reads
-use Rattle.program.proofs.instruction.form_of.Reads as form-of-reads
-use Rattle.program.proofs.instruction.instruction_at.Reads as instruction-at-reads
 
 abbrev Inv-loop : tie.InvT-loop
 Inv-loop s l thread start count at report₀ frames₀ depth₀ locks₀ sofar₀ d₀ here₀ left₀ report frames depth locks sofar d here left =
@@ -34,309 +15,245 @@ Inv-loop s l thread start count at report₀ frames₀ depth₀ locks₀ sofar�
 abbrev μ-loop : tie.MeasureT-loop
 μ-loop s l thread start count at report₀ frames₀ depth₀ locks₀ sofar₀ d₀ here₀ left₀ report frames depth locks sofar d here left = left
 
--- src/scan.rt:65:9
 whole-frame-requires : tie.Need-whole-frame-requires Inv-loop μ-loop
 whole-frame-requires c κs = search needs
 
--- src/scan.rt:69:21
 empty-requires : tie.Need-empty-requires Inv-loop μ-loop
 empty-requires c κs = search needs
 
--- src/scan.rt:74:5
 loop-holds : tie.Need-loop-holds Inv-loop μ-loop
 loop-holds c =
     let args = c .before .before .before .before .args in
     scanning-start (args .s .now) (args .l) (args .thread) (args .start) (args .count) (args .at) (args .report .now)
-      (c .before .whole-frame .result) (c .empty .result) (c .before .whole-frame .ensures) (c .empty .ensures)
+    (c .before .whole-frame .result) (c .empty .result) (c .before .whole-frame .ensures) (c .empty .ensures)
 
--- src/scan.rt:77:9
 add-d : tie.Need-add-d Inv-loop μ-loop
 add-d c = search needs
 
--- src/scan.rt:78:9
 add-here : tie.Need-add-here Inv-loop μ-loop
 add-here c = search needs
 
--- src/scan.rt:79:9
 sub-left : tie.Need-sub-left Inv-loop μ-loop
 sub-left c = search needs
 
--- src/scan.rt:80:13
 instruction-at-requires : tie.Need-instruction-at-requires Inv-loop μ-loop
 instruction-at-requires c κs = search needs
 
--- src/scan.rt:81:13
 form-of-requires : tie.Need-form-of-requires Inv-loop μ-loop
 form-of-requires c κs = search needs
 
--- src/scan.rt:83:60
 enum-told : tie.Need-enum-told Inv-loop μ-loop
 enum-told c = search needs
 
--- src/scan.rt:83:17
 offence-requires : tie.Need-offence-requires Inv-loop μ-loop
 offence-requires c κs = search needs
 
--- src/scan.rt:84:37
 enum-known-verdict : tie.Need-enum-known-verdict Inv-loop μ-loop
 enum-known-verdict c = search needs
 
--- src/scan.rt:85:17
 same-length : tie.Need-same-length Inv-loop μ-loop
 same-length c = search needs
 
--- src/scan.rt:85:17
 returns : tie.Need-returns Inv-loop μ-loop
 returns c =
     let args = c .before .before .before .before .before .before .before .before .before .before .before .before .before .before .before .before .before .args in
     ends-refused (args .s .now) _ _ _ _ _ _ _
     (ends-plain (args .s .now) _ _ _ _ _ _ _ _ _ _ _ _ _ _ (c .before .before .before .before .before .before .before .before .before .before .before .before .loop .inv) (c .before .before .before .before .before .before .before .before .before .before .before .loop-test .taken) (c .before .before .before .before .before .before .before .before .before .before .instruction-at .result) (c .before .before .before .before .before .before .before .before .before .before .instruction-at .ensures)
-      (sym (c .before .before .before .before .before .before .before .before .before .form-of .ensures) ∙ c .before .before .before .before .before .before .before .enum-told .given .1) _ (rw (c .before .verdict .given .1) at (c .before .before .before .offence .ensures)))
+    (sym (c .before .before .before .before .before .before .before .before .before .form-of .ensures) ∙ c .before .before .before .before .before .before .before .enum-told .given .1) _ (rw (c .before .verdict .given .1) at (c .before .before .before .offence .ensures)))
 
 enum-told-2 : tie.Need-enum-told-2 Inv-loop μ-loop
 enum-told-2 c = search needs
 
--- src/scan.rt:87:17
 atomicity-of-requires : tie.Need-atomicity-of-requires Inv-loop μ-loop
 atomicity-of-requires c κs = search needs
 
--- src/scan.rt:88:13
 then-requires : tie.Need-then-requires Inv-loop μ-loop
 then-requires c κs = search needs
 
--- src/scan.rt:89:38
 report-byte-requires : tie.Need-report-byte-requires Inv-loop μ-loop
 report-byte-requires c κs = search needs
 
--- src/scan.rt:89:13
 put-requires : tie.Need-put-requires Inv-loop μ-loop
 put-requires c κs = search needs
 
--- src/scan.rt:90:16
 moves-requires : tie.Need-moves-requires Inv-loop μ-loop
 moves-requires c κs = search needs
 
--- src/scan.rt:91:25
 move-locks-requires : tie.Need-move-locks-requires Inv-loop μ-loop
 move-locks-requires c κs = search needs
 
--- src/scan.rt:74:5
 loop-less : tie.Need-loop-less Inv-loop μ-loop
 loop-less c = omega arith
 
--- src/scan.rt:74:5
 loop-again : tie.Need-loop-again Inv-loop μ-loop
 loop-again c =
     let args = c .before .before .before .before .before .before .before .before .before .before .before .before .before .before .before .before .before .before .before .before .before .before .before .before .before .before .args in
     rw (c .before .before .before .before .before .put .ensures, c .before .before .before .before .before .before .report-byte .ensures, c .before .before .before .before .before .before .before .before .then .ensures, c .move-locks .ensures)
     (next-passed (args .s .now) _ _ _ _ _ _ _ _ _ _ _ _ _ _ (c .before .before .before .before .before .before .before .before .before .before .before .before .before .before .before .before .before .before .before .before .before .loop .inv) (c .before .before .before .before .before .before .before .before .before .before .before .before .before .before .before .before .before .before .before .before .loop-test .taken) (c .before .before .before .before .before .before .before .before .before .before .before .before .before .before .before .before .before .before .before .instruction-at .result) (c .before .before .before .before .before .before .before .before .before .before .before .before .before .before .before .before .before .before .before .instruction-at .ensures)
-      (sym (c .before .before .before .before .before .before .before .before .before .before .before .before .before .before .before .before .before .before .form-of .ensures) ∙ c .before .before .before .before .before .before .before .before .before .before .before .before .before .before .before .before .enum-told .given .1) _ (c .before .before .before .before .before .before .before .before .before .atomicity-of .result) (rw (c .before .before .before .before .before .before .before .before .before .before .enum-told2 .given .1) at (c .before .before .before .before .before .before .before .before .before .before .before .before .offence .ensures)) (c .before .before .before .before .before .before .before .before .before .atomicity-of .ensures))
+    (sym (c .before .before .before .before .before .before .before .before .before .before .before .before .before .before .before .before .before .before .form-of .ensures) ∙ c .before .before .before .before .before .before .before .before .before .before .before .before .before .before .before .before .enum-told .given .1) _ (c .before .before .before .before .before .before .before .before .before .atomicity-of .result) (rw (c .before .before .before .before .before .before .before .before .before .before .enum-told2 .given .1) at (c .before .before .before .before .before .before .before .before .before .before .before .before .offence .ensures)) (c .before .before .before .before .before .before .before .before .before .atomicity-of .ensures))
 
--- src/scan.rt:74:5
 loop-less-2 : tie.Need-loop-less-2 Inv-loop μ-loop
 loop-less-2 c = omega arith
 
--- src/scan.rt:74:5
 loop-again-2 : tie.Need-loop-again-2 Inv-loop μ-loop
 loop-again-2 c =
     let args = c .before .before .before .before .before .before .before .before .before .before .before .before .before .before .before .before .before .before .before .before .before .before .before .before .before .args in
     let locks = c .before .before .before .before .before .before .before .before .before .before .before .before .before .before .before .before .before .before .before .before .loop .locks in
     rw (c .before .before .before .before .put .ensures, c .before .before .before .before .before .report-byte .ensures, c .before .before .before .before .before .before .before .then .ensures)
     (next-passed (args .s .now) _ _ _ _ _ _ _ _ _ _ _ _ _ _ (c .before .before .before .before .before .before .before .before .before .before .before .before .before .before .before .before .before .before .before .before .loop .inv) (c .before .before .before .before .before .before .before .before .before .before .before .before .before .before .before .before .before .before .before .loop-test .taken) (c .before .before .before .before .before .before .before .before .before .before .before .before .before .before .before .before .before .before .instruction-at .result) (c .before .before .before .before .before .before .before .before .before .before .before .before .before .before .before .before .before .before .instruction-at .ensures)
-      (sym (c .before .before .before .before .before .before .before .before .before .before .before .before .before .before .before .before .before .form-of .ensures) ∙ c .before .before .before .before .before .before .before .before .before .before .before .before .before .before .before .enum-told .given .1) locks (c .before .before .before .before .before .before .before .before .atomicity-of .result)
-      (ap fine (sym (c .before .moves .ensures (c .if1 .left) locks)) ∙ (rw (c .before .before .before .before .before .before .before .before .before .enum-told2 .given .1) at (c .before .before .before .before .before .before .before .before .before .before .before .offence .ensures))) (c .before .before .before .before .before .before .before .before .atomicity-of .ensures))
+    (sym (c .before .before .before .before .before .before .before .before .before .before .before .before .before .before .before .before .before .form-of .ensures) ∙ c .before .before .before .before .before .before .before .before .before .before .before .before .before .before .before .enum-told .given .1) locks (c .before .before .before .before .before .before .before .before .atomicity-of .result)
+    (ap fine (sym (c .before .moves .ensures (c .if1 .left) locks)) ∙ (rw (c .before .before .before .before .before .before .before .before .before .enum-told2 .given .1) at (c .before .before .before .before .before .before .before .before .before .before .before .offence .ensures))) (c .before .before .before .before .before .before .before .before .atomicity-of .ensures))
 
--- src/scan.rt:95:21
 mul-inner : tie.Need-mul-inner Inv-loop μ-loop
 mul-inner c = omega (arith, c .before .before .before .before .loop .inv .deep)
 
--- src/scan.rt:95:21
 array-copy-out-inner : tie.Need-array-copy-out-inner Inv-loop μ-loop
 array-copy-out-inner c = omega (arith, c .before .before .before .before .loop .inv .deep)
 
--- src/scan.rt:96:13
 take-turn-requires : tie.Need-take-turn-requires Inv-loop μ-loop
 take-turn-requires c κs = search needs
 
--- src/scan.rt:102:24
 enum-known-step : tie.Need-enum-known-step Inv-loop μ-loop
 enum-known-step c = search needs
 
--- src/scan.rt:102:33
 put-requires-2 : tie.Need-put-requires-2 Inv-loop μ-loop
 put-requires-2 c κs = search needs
 
--- src/scan.rt:74:5
 loop-less-3 : tie.Need-loop-less-3 Inv-loop μ-loop
 loop-less-3 c = omega arith
 
--- src/scan.rt:74:5
 loop-again-3 : tie.Need-loop-again-3 Inv-loop μ-loop
 loop-again-3 c =
     let args = c .before .before .before .before .before .before .before .before .before .before .before .before .before .before .before .before .before .before .before .before .args in
     rw (c .before .before .put2 .ensures)
     (next-pass (args .s .now) _ _ _ _ _ _ _ _ _ _ _ _ _ _ (c .before .before .before .before .before .before .before .before .before .before .before .before .before .before .before .loop .inv) (c .before .before .before .before .before .before .before .before .before .before .before .before .before .before .loop-test .taken) (c .before .before .before .before .before .before .before .before .before .before .before .before .before .instruction-at .result) (c .before .before .before .before .before .before .before .before .before .before .before .before .before .instruction-at .ensures)
-      _ (c .before .before .before .before .before .before .before .before .before .take-turn .result) (c .before .before .before .before .before .before .before .before .before .take-turn .ensures) _ (c .before .before .before .before .before .step .given .1))
+    _ (c .before .before .before .before .before .before .before .before .before .take-turn .result) (c .before .before .before .before .before .before .before .before .before .take-turn .ensures) _ (c .before .before .before .before .before .step .given .1))
 
--- src/scan.rt:104:20
 enum-told-3 : tie.Need-enum-told-3 Inv-loop μ-loop
 enum-told-3 c = search needs
 
--- src/scan.rt:105:21
 same-length-2 : tie.Need-same-length-2 Inv-loop μ-loop
 same-length-2 c = search needs
 
--- src/scan.rt:105:21
 returns-2 : tie.Need-returns-2 Inv-loop μ-loop
 returns-2 c =
     let args = c .before .before .before .before .before .before .before .before .before .before .before .before .before .before .before .before .args in
     ends-refused (args .s .now) _ _ _ _ _ _ _
     (ends-full (args .s .now) _ _ _ _ _ _ _ _ _ _ _ _ _ _ (c .before .before .before .before .before .before .before .before .before .before .before .loop .inv) (c .before .before .before .before .before .before .before .before .before .before .loop-test .taken) (c .before .before .before .before .before .before .before .before .before .instruction-at .result) (c .before .before .before .before .before .before .before .before .before .instruction-at .ensures)
-      _ (c .before .before .before .before .before .take-turn .result) (c .before .before .before .before .before .take-turn .ensures) (c .before .enum-told3 .given .1) (c .if2 .taken))
+    _ (c .before .before .before .before .before .take-turn .result) (c .before .before .before .before .before .take-turn .ensures) (c .before .enum-told3 .given .1) (c .if2 .taken))
 
--- src/scan.rt:107:17
 add-depth : tie.Need-add-depth Inv-loop μ-loop
 add-depth c = search needs
 
--- src/scan.rt:108:17
 mul-frames : tie.Need-mul-frames Inv-loop μ-loop
 mul-frames c = omega (arith, c .before .before .before .before .before .before .before .before .before .before .before .loop .inv .deep)
 
--- src/scan.rt:108:17
 array-set-from-frames : tie.Need-array-set-from-frames Inv-loop μ-loop
 array-set-from-frames c = omega (arith, c .before .before .before .before .before .before .before .before .before .before .before .loop .inv .deep)
 
--- src/scan.rt:109:17
 put-requires-3 : tie.Need-put-requires-3 Inv-loop μ-loop
 put-requires-3 c κs = search needs
 
--- src/scan.rt:74:5
 loop-less-4 : tie.Need-loop-less-4 Inv-loop μ-loop
 loop-less-4 c = omega arith
 
--- src/scan.rt:74:5
 loop-again-4 : tie.Need-loop-again-4 Inv-loop μ-loop
 loop-again-4 c =
     let args = c .before .before .before .before .before .before .before .before .before .before .before .before .before .before .before .before .before .before .before .before .args in
     rw (c .before .before .put3 .ensures)
     (next-open (args .s .now) _ _ _ _ _ _ _ _ _ _ _ _ _ _ (c .before .before .before .before .before .before .before .before .before .before .before .before .before .before .before .loop .inv) (c .before .before .before .before .before .before .before .before .before .before .before .before .before .before .loop-test .taken) (c .before .before .before .before .before .before .before .before .before .before .before .before .before .instruction-at .result) (c .before .before .before .before .before .before .before .before .before .before .before .before .before .instruction-at .ensures)
-      _ (c .before .before .before .before .before .before .before .before .before .take-turn .result) (c .before .before .before .before .before .before .before .before .before .take-turn .ensures) (c .before .before .before .before .before .enum-told3 .given .1) (c .before .before .before .before .if2 .left))
+    _ (c .before .before .before .before .before .before .before .before .before .take-turn .result) (c .before .before .before .before .before .before .before .before .before .take-turn .ensures) (c .before .before .before .before .before .enum-told3 .given .1) (c .before .before .before .before .if2 .left))
 
--- src/scan.rt:112:17
 enum-told-4 : tie.Need-enum-told-4 Inv-loop μ-loop
 enum-told-4 c = search needs
 
--- src/scan.rt:112:17
 mul-frames-2 : tie.Need-mul-frames-2 Inv-loop μ-loop
 mul-frames-2 c = omega (arith, c .before .before .before .before .before .before .before .before .before .before .loop .inv .deep)
 
--- src/scan.rt:112:17
 array-set-from-frames-2 : tie.Need-array-set-from-frames-2 Inv-loop μ-loop
 array-set-from-frames-2 c = omega (arith, c .before .before .before .before .before .before .before .before .before .before .loop .inv .deep)
 
--- src/scan.rt:113:17
 put-requires-4 : tie.Need-put-requires-4 Inv-loop μ-loop
 put-requires-4 c κs = search needs
 
--- src/scan.rt:74:5
 loop-less-5 : tie.Need-loop-less-5 Inv-loop μ-loop
 loop-less-5 c = omega arith
 
--- src/scan.rt:74:5
 loop-again-5 : tie.Need-loop-again-5 Inv-loop μ-loop
 loop-again-5 c =
     let args = c .before .before .before .before .before .before .before .before .before .before .before .before .before .before .before .before .before .before .before .args in
     rw (c .before .before .put4 .ensures)
     (next-replace (args .s .now) _ _ _ _ _ _ _ _ _ _ _ _ _ _ (c .before .before .before .before .before .before .before .before .before .before .before .before .before .before .loop .inv) (c .before .before .before .before .before .before .before .before .before .before .before .before .before .loop-test .taken) (c .before .before .before .before .before .before .before .before .before .before .before .before .instruction-at .result) (c .before .before .before .before .before .before .before .before .before .before .before .before .instruction-at .ensures)
-      _ (c .before .before .before .before .before .before .before .before .take-turn .result) (c .before .before .before .before .before .before .before .before .take-turn .ensures) (c .before .before .before .before .enum-told4 .given .1))
+    _ (c .before .before .before .before .before .before .before .before .take-turn .result) (c .before .before .before .before .before .before .before .before .take-turn .ensures) (c .before .before .before .before .enum-told4 .given .1))
 
--- src/scan.rt:115:25
 enum-known-step-2 : tie.Need-enum-known-step-2 Inv-loop μ-loop
 enum-known-step-2 c = search needs
 
--- src/scan.rt:117:21
 same-length-3 : tie.Need-same-length-3 Inv-loop μ-loop
 same-length-3 c = search needs
 
--- src/scan.rt:117:21
 returns-3 : tie.Need-returns-3 Inv-loop μ-loop
 returns-3 c =
     let args = c .before .before .before .before .before .before .before .before .before .before .before .before .before .before .before .before .before .args in
     ends-refused (args .s .now) _ _ _ _ _ _ _
     (ends-bare (args .s .now) _ _ _ _ _ _ _ _ _ _ _ _ _ _ (c .before .before .before .before .before .before .before .before .before .before .before .before .loop .inv) (c .before .before .before .before .before .before .before .before .before .before .before .loop-test .taken) (c .before .before .before .before .before .before .before .before .before .before .instruction-at .result) (c .before .before .before .before .before .before .before .before .before .before .instruction-at .ensures)
-      _ (c .before .before .before .before .before .before .take-turn .result) (c .before .before .before .before .before .before .take-turn .ensures) _ _ (c .before .before .step2 .given .1) (c .if3 .taken))
+    _ (c .before .before .before .before .before .before .take-turn .result) (c .before .before .before .before .before .before .take-turn .ensures) _ _ (c .before .before .step2 .given .1) (c .if3 .taken))
 
--- src/scan.rt:119:17
 sub-depth : tie.Need-sub-depth Inv-loop μ-loop
 sub-depth c = search needs
 
--- src/scan.rt:120:17
 put-requires-5 : tie.Need-put-requires-5 Inv-loop μ-loop
 put-requires-5 c κs = search needs
 
--- src/scan.rt:121:17
 put-requires-6 : tie.Need-put-requires-6 Inv-loop μ-loop
 put-requires-6 c κs = search needs
 
--- src/scan.rt:74:5
 loop-less-6 : tie.Need-loop-less-6 Inv-loop μ-loop
 loop-less-6 c = omega arith
 
--- src/scan.rt:74:5
 loop-again-6 : tie.Need-loop-again-6 Inv-loop μ-loop
 loop-again-6 c =
     let args = c .before .before .before .before .before .before .before .before .before .before .before .before .before .before .before .before .before .before .before .before .before .before .before .before .before .args in
     rw (c .before .before .put6 .ensures, c .before .before .before .before .before .before .put5 .ensures)
     (next-close (args .s .now) _ _ _ _ _ _ _ _ _ _ _ _ _ _ (c .before .before .before .before .before .before .before .before .before .before .before .before .before .before .before .before .before .before .before .before .loop .inv) (c .before .before .before .before .before .before .before .before .before .before .before .before .before .before .before .before .before .before .before .loop-test .taken) (c .before .before .before .before .before .before .before .before .before .before .before .before .before .before .before .before .before .before .instruction-at .result) (c .before .before .before .before .before .before .before .before .before .before .before .before .before .before .before .before .before .before .instruction-at .ensures)
-      _ (c .before .before .before .before .before .before .before .before .before .before .before .before .before .before .take-turn .result) (c .before .before .before .before .before .before .before .before .before .before .before .before .before .before .take-turn .ensures) _ _ (c .before .before .before .before .before .before .before .before .before .before .step2 .given .1) (omega (arith, c .before .before .before .before .before .before .before .before .if3 .left)))
+    _ (c .before .before .before .before .before .before .before .before .before .before .before .before .before .before .take-turn .result) (c .before .before .before .before .before .before .before .before .before .before .before .before .before .before .take-turn .ensures) _ _ (c .before .before .before .before .before .before .before .before .before .before .step2 .given .1) (omega (arith, c .before .before .before .before .before .before .before .before .if3 .left)))
 
--- src/scan.rt:123:26
 enum-known-step-3 : tie.Need-enum-known-step-3 Inv-loop μ-loop
 enum-known-step-3 c = search needs
 
--- src/scan.rt:123:38
 same-length-4 : tie.Need-same-length-4 Inv-loop μ-loop
 same-length-4 c = search needs
 
--- src/scan.rt:123:38
 returns-4 : tie.Need-returns-4 Inv-loop μ-loop
 returns-4 c =
     let args = c .before .before .before .before .before .before .before .before .before .before .before .before .before .before .before .before .args in
     ends-refused (args .s .now) _ _ _ _ _ _ _
     (ends-refuse (args .s .now) _ _ _ _ _ _ _ _ _ _ _ _ _ _ (c .before .before .before .before .before .before .before .before .before .before .before .loop .inv) (c .before .before .before .before .before .before .before .before .before .before .loop-test .taken) (c .before .before .before .before .before .before .before .before .before .instruction-at .result) (c .before .before .before .before .before .before .before .before .before .instruction-at .ensures)
-      _ (c .before .before .before .before .before .take-turn .result) (c .before .before .before .before .before .take-turn .ensures) _ (c .before .step3 .given .1))
+    _ (c .before .before .before .before .before .take-turn .result) (c .before .before .before .before .before .take-turn .ensures) _ (c .before .step3 .given .1))
 
--- src/scan.rt:126:19
 empty-requires-2 : tie.Need-empty-requires-2 Inv-loop μ-loop
 empty-requires-2 c κs = search needs
 
--- src/scan.rt:126:8
 same-requires : tie.Need-same-requires Inv-loop μ-loop
 same-requires c κs = search needs
 
--- src/scan.rt:127:27
 report-byte-requires-2 : tie.Need-report-byte-requires-2 Inv-loop μ-loop
 report-byte-requires-2 c κs = search needs
 
--- src/scan.rt:127:9
 put-requires-7 : tie.Need-put-requires-7 Inv-loop μ-loop
 put-requires-7 c κs = search needs
 
--- src/scan.rt:128:9
 same-length-5 : tie.Need-same-length-5 Inv-loop μ-loop
 same-length-5 c = search needs
 
--- src/scan.rt:128:9
 returns-5 : tie.Need-returns-5 Inv-loop μ-loop
 returns-5 c =
     let args = c .before .before .before .before .before .before .before .before .before .before .before .before .before .before .args in
     rw (c .before .before .put7 .ensures, c .before .before .before .report-byte2 .ensures) (ends-fine (args .s .now) _ _ _ _ _ _ _ _ _ _ _ _ _ _ (c .before .before .before .before .before .before .before .before .before .loop .inv) (c .before .before .before .before .before .before .before .before .loop-test .left) (sym (c .before .before .before .before .before .before .same .ensures ∙ ap (same (c .before .before .before .before .before .before .before .before .before .loop .locks)) (c .before .before .before .before .before .before .before .empty2 .ensures)) ∙ c .before .before .before .before .before .if4 .taken))
 
--- src/scan.rt:48:1
 same-length-6 : tie.Need-same-length-6 Inv-loop μ-loop
 same-length-6 c = search needs
 
--- src/scan.rt:48:1
 returns-6 : tie.Need-returns-6 Inv-loop μ-loop
 returns-6 c =
     let args = c .before .before .before .before .before .before .before .before .before .args in

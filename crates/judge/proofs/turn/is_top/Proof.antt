@@ -1,20 +1,15 @@
+-- `is_top` meets its contract. Assumes nothing.
 use borrow.Author.Needs.{needs}
 use Rattle.judge.specs.Judging.{isTop}
 use Rattle.judge.proofs.turn.is_top.Statement.{statement}
 use Rattle.judge.proofs.turn.is_top.Tie as tie
-use Rattle.judge.proofs.turn.is_top.Reads as reads
-use Rattle.judge.proofs.turn.is_top.Lts as lts
-use Rattle.atomicity.proofs.Atomicity.report_byte.Reads as report-byte-reads
 
--- src/turn.rt:165:5
 report-byte-requires : tie.Need-report-byte-requires
 report-byte-requires c κs = search needs
 
--- src/turn.rt:165:24
 report-byte-requires-2 : tie.Need-report-byte-requires-2
 report-byte-requires-2 c κs = search needs
 
--- src/turn.rt:162:1
 returns : tie.Need-returns
 unfolding isTop
 returns c = rw (c .before .report-byte .ensures, c .report-byte2 .ensures)

@@ -1,46 +1,32 @@
+-- `passing` meets its contract. Assumes nothing.
 use borrow.Author.Needs.{needs}
 use Rattle.judge.proofs.turn.passing.Statement.{statement}
 use Rattle.judge.proofs.turn.passing.Tie as tie
-use Rattle.judge.proofs.turn.passing.Reads as reads
-use Rattle.judge.proofs.turn.passing.Lts as lts
-use Rattle.atomicity.proofs.Atomicity.report_byte.Reads as report-byte-reads
-use Rattle.atomicity.proofs.Atomicity.then.Reads as then-reads
-use Rattle.judge.proofs.discipline.atomicity_of.Reads as atomicity-of-reads
-use Rattle.judge.proofs.discipline.locks_after.Reads as locks-after-reads
-use Rattle.judge.proofs.turn.refusing.Reads as refusing-reads
 
--- src/turn.rt:71:9
 locks-after-requires : tie.Need-locks-after-requires
 locks-after-requires c κs = search needs
 
--- src/turn.rt:73:29
 enum-known-verdict : tie.Need-enum-known-verdict
 enum-known-verdict c = search needs
 
--- src/turn.rt:74:9
 refusing-requires : tie.Need-refusing-requires
 refusing-requires c κs = search needs
 
--- src/turn.rt:74:9
 returns : tie.Need-returns
 returns c = rw (c .refusing .ensures, ← c .before .before .before .before .locks-after .ensures, c .before .before .verdict .given .1)
 
 enum-told : tie.Need-enum-told
 enum-told c = search needs
 
--- src/turn.rt:77:9
 atomicity-of-requires : tie.Need-atomicity-of-requires
 atomicity-of-requires c κs = search needs
 
--- src/turn.rt:79:26
 report-byte-requires : tie.Need-report-byte-requires
 report-byte-requires c κs = search needs
 
--- src/turn.rt:81:16
 then-requires : tie.Need-then-requires
 then-requires c κs = search needs
 
--- src/turn.rt:55:1
 returns-2 : tie.Need-returns-2
 returns-2 c = rw (c .then .ensures, c .before .report-byte .ensures, c .before .before .atomicity-of .ensures, ← c .before .before .before .before .before .before .locks-after .ensures, c .before .before .before .before .enum-told .given .1)
 

@@ -1,107 +1,78 @@
+-- `take_turn` meets its contract. Assumes nothing.
 use borrow.Author.Needs.{needs}
 use Rattle.judge.specs.Scan.{turn, turnBy}
 use Rattle.judge.proofs.turn.take_turn.Statement.{statement}
 use Rattle.judge.proofs.turn.take_turn.Tie as tie
-use Rattle.judge.proofs.turn.take_turn.Reads as reads
-use Rattle.judge.proofs.turn.take_turn.Lts as lts
-use Rattle.judge.proofs.turn.at_again.Reads as at-again-reads
-use Rattle.judge.proofs.turn.at_else.Reads as at-else-reads
-use Rattle.judge.proofs.turn.at_end.Reads as at-end-reads
-use Rattle.judge.proofs.turn.opening.Reads as opening-reads
-use Rattle.judge.proofs.turn.passing.Reads as passing-reads
-use Rattle.program.proofs.instruction.form_of.Reads as form-of-reads
 
--- src/turn.rt:233:9
 form-of-requires : tie.Need-form-of-requires
 form-of-requires c κs = search needs
 
--- src/turn.rt:235:24
 enum-told : tie.Need-enum-told
 enum-told c = search needs
 
--- src/turn.rt:235:24
 passing-requires : tie.Need-passing-requires
 passing-requires c κs = search needs
 
--- src/turn.rt:236:35
 enum-told-2 : tie.Need-enum-told-2
 enum-told-2 c = search needs
 
--- src/turn.rt:236:27
 opening-requires : tie.Need-opening-requires
 opening-requires c κs = search needs
 
--- src/turn.rt:237:26
 enum-told-3 : tie.Need-enum-told-3
 enum-told-3 c = search needs
 
--- src/turn.rt:237:26
 at-else-requires : tie.Need-at-else-requires
 at-else-requires c κs = search needs
 
--- src/turn.rt:238:38
 enum-told-4 : tie.Need-enum-told-4
 enum-told-4 c = search needs
 
--- src/turn.rt:238:30
 opening-requires-2 : tie.Need-opening-requires-2
 opening-requires-2 c κs = search needs
 
--- src/turn.rt:239:27
 enum-told-5 : tie.Need-enum-told-5
 enum-told-5 c = search needs
 
--- src/turn.rt:239:27
 at-again-requires : tie.Need-at-again-requires
 at-again-requires c κs = search needs
 
--- src/turn.rt:240:36
 enum-told-6 : tie.Need-enum-told-6
 enum-told-6 c = search needs
 
--- src/turn.rt:240:28
 opening-requires-3 : tie.Need-opening-requires-3
 opening-requires-3 c κs = search needs
 
--- src/turn.rt:241:22
 enum-told-7 : tie.Need-enum-told-7
 enum-told-7 c = search needs
 
--- src/turn.rt:241:22
 at-end-requires : tie.Need-at-end-requires
 at-end-requires c κs = search needs
 
--- src/turn.rt:219:1
 returns : tie.Need-returns
 unfolding turn turnBy
 returns c = rw (c .passing .ensures, ← c .before .before .before .form-of .ensures, c .before .enum-told .given .1)
 
--- src/turn.rt:219:1
 returns-2 : tie.Need-returns-2
 unfolding turn turnBy
 returns-2 c = rw (c .opening .ensures, ← c .before .before .before .form-of .ensures, c .before .enum-told2 .given .1)
 
--- src/turn.rt:219:1
 returns-3 : tie.Need-returns-3
 unfolding turn turnBy
 returns-3 c = rw (c .at-else .ensures, ← c .before .before .before .form-of .ensures, c .before .enum-told3 .given .1)
 
--- src/turn.rt:219:1
 returns-4 : tie.Need-returns-4
 unfolding turn turnBy
 returns-4 c = rw (c .opening2 .ensures, ← c .before .before .before .form-of .ensures, c .before .enum-told4 .given .1)
 
--- src/turn.rt:219:1
 returns-5 : tie.Need-returns-5
 unfolding turn turnBy
 returns-5 c = rw (c .at-again .ensures, ← c .before .before .before .form-of .ensures, c .before .enum-told5 .given .1)
 
--- src/turn.rt:219:1
 returns-6 : tie.Need-returns-6
 unfolding turn turnBy
 returns-6 c = rw (c .opening3 .ensures, ← c .before .before .before .form-of .ensures, c .before .enum-told6 .given .1)
 
--- src/turn.rt:219:1
 returns-7 : tie.Need-returns-7
 unfolding turn turnBy
 returns-7 c = rw (c .at-end .ensures, ← c .before .before .before .form-of .ensures, c .before .enum-told7 .given .1)

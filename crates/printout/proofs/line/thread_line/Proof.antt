@@ -2,6 +2,7 @@
 use mathlib.Core.Path.{refl}
 use native.Mathlib.Omega.{arith}
 use Rattle.printout.specs.Text.{ascii}
+use Rattle.printout.specs.Item.{threadLine}
 use Rattle.printout.proofs.Stored.{line-more, line-last, printed}
 use Rattle.printout.proofs.line.thread_line.Statement.{statement}
 use Rattle.printout.proofs.line.thread_line.Tie as tie
@@ -31,7 +32,7 @@ same-length : tie.Need-same-length
 same-length c = omega arith
 
 returns : tie.Need-returns
-unfolding ascii
+unfolding ascii threadLine
 returns c =
     let fifth = c .before .before in
     let fourth = fifth .before .before .before .before in

@@ -2,6 +2,7 @@
 use mathlib.Core.Path.{refl}
 use native.Mathlib.Omega.{arith}
 use Rattle.printout.specs.Text.{ascii}
+use Rattle.printout.specs.Item.{variablesLine}
 use Rattle.printout.proofs.Stored.{line-more, line-last, printed}
 use Rattle.printout.proofs.line.variables_line.Statement.{statement}
 use Rattle.printout.proofs.line.variables_line.Tie as tie
@@ -22,7 +23,7 @@ same-length : tie.Need-same-length
 same-length c = omega arith
 
 returns : tie.Need-returns
-unfolding ascii
+unfolding ascii variablesLine
 returns c =
     let third = c .before .before in
     let second = third .before .before .before .before in

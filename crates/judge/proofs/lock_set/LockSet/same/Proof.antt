@@ -1,6 +1,7 @@
+-- `LockSet::same` meets its contract. Assumes nothing.
 use Prim.Native.Nat.{_≤_, _-_}
 use mathlib.Core.Path.{_≡_, refl, sym, _∙_}
-use lib.ListN.{length, drop, getD}
+use lib.ListN.{drop, getD}
 use native.Mathlib.Omega.{arith}
 use mathlib.Core.Bool.{true, false}
 use borrow.Author.Needs.{needs}
@@ -9,9 +10,6 @@ use Rattle.judge.specs.LockSet.{sameFlag, sameFlags, same}
 use Rattle.judge.proofs.LockSets.{flags-of, same-differ, same-next, same-end}
 use Rattle.judge.proofs.lock_set.LockSet.same.Statement.{statement}
 use Rattle.judge.proofs.lock_set.LockSet.same.Tie as tie
-use Rattle.judge.proofs.lock_set.LockSet.same.Reads as reads
-use Rattle.judge.proofs.lock_set.LockSet.same.Lts as lts
-use Rattle.judge.proofs.lock_set.same_flag.Reads as same-flag-reads
 
 abbrev Inv-loop : tie.InvT-loop
 Inv-loop self other k₀ k = (k ≤ 16) × (sameFlags (drop k (self .held)) (drop k (other .held)) ≡ sameFlags (self .held) (other .held))
@@ -19,23 +17,18 @@ Inv-loop self other k₀ k = (k ≤ 16) × (sameFlags (drop k (self .held)) (dro
 abbrev μ-loop : tie.MeasureT-loop
 μ-loop self other k₀ k = 16 - k
 
--- src/lock_set.rt:61:9
 loop-holds : tie.Need-loop-holds Inv-loop μ-loop
 loop-holds c = (omega arith, refl)
 
--- src/lock_set.rt:62:21
 element-copy-out-a : tie.Need-element-copy-out-a Inv-loop μ-loop
 element-copy-out-a c = omega arith
 
--- src/lock_set.rt:63:21
 element-copy-out-b : tie.Need-element-copy-out-b Inv-loop μ-loop
 element-copy-out-b c = omega arith
 
--- src/lock_set.rt:64:17
 same-flag-requires : tie.Need-same-flag-requires Inv-loop μ-loop
 same-flag-requires c κs = search needs
 
--- src/lock_set.rt:65:17
 returns : tie.Need-returns Inv-loop μ-loop
 unfolding same
 returns c =
@@ -44,18 +37,15 @@ returns c =
     let l = flags-of (start .args .t1 .held) 16 (start .good .0 .1 .1 .0 .1 .0 .1) in
     let m = flags-of (start .args .t2 .held) 16 (start .good .1 .0 .1 .1 .0 .1 .0 .1) in
     let differ : sameFlag (getD (start .args .t1 .held) (loop .k) false) (getD (start .args .t2 .held) (loop .k) false) ≡ false =
-        sym (c .before .same-flag .ensures) ∙ not-true _ (c .if1 .taken) in
+    sym (c .before .same-flag .ensures) ∙ not-true _ (c .if1 .taken) in
     sym (sym (loop .inv .1) ∙ same-differ (start .args .t1 .held) (start .args .t2 .held) (loop .k) (omega arith) (omega arith) differ)
 
--- src/lock_set.rt:67:13
 add-k : tie.Need-add-k Inv-loop μ-loop
 add-k c = omega arith
 
--- src/lock_set.rt:61:9
 loop-less : tie.Need-loop-less Inv-loop μ-loop
 loop-less c = omega arith
 
--- src/lock_set.rt:61:9
 loop-again : tie.Need-loop-again Inv-loop μ-loop
 loop-again c =
     let start = c .before .before .before .before .before .before in
@@ -63,10 +53,9 @@ loop-again c =
     let l = flags-of (start .args .t1 .held) 16 (start .good .0 .1 .1 .0 .1 .0 .1) in
     let m = flags-of (start .args .t2 .held) 16 (start .good .1 .0 .1 .1 .0 .1 .0 .1) in
     let equal : sameFlag (getD (start .args .t1 .held) (loop .k) false) (getD (start .args .t2 .held) (loop .k) false) ≡ true =
-        sym (c .before .same-flag .ensures) ∙ not-false _ (c .if1 .left) in
+    sym (c .before .same-flag .ensures) ∙ not-false _ (c .if1 .left) in
     (omega arith, same-next (start .args .t1 .held) (start .args .t2 .held) (loop .k) (omega arith) (omega arith) equal ∙ loop .inv .1)
 
--- src/lock_set.rt:57:5
 returns-2 : tie.Need-returns-2 Inv-loop μ-loop
 unfolding same
 returns-2 c =
