@@ -3,6 +3,7 @@
 --     Opening       what is known of an accepted file
 --     Answers       what each call answers where its code returns
 --     Running       ... of run
+--     Printing      ... of line
 --     Numbers       a refusal as C gets it
 --     Cases         document 01's starred cases
 --     Examples      worked examples, computed
@@ -10,6 +11,7 @@ pub mod Definitions
 pub mod Opening
 pub mod Answers
 pub mod Running
+pub mod Printing
 pub mod Numbers
 pub mod Cases
 pub mod Examples

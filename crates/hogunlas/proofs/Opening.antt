@@ -1,13 +1,14 @@
 -- From judge_file's answer to what is known of the file, and the sizes of its program. Assumes nothing.
-use Prim.Native.Nat.{ℕ, _+_, _*_}
+use Prim.Native.Nat.{ℕ, _+_, _*_, _≤_}
 use mathlib.Core.Path.{_≡_, refl, sym, _∙_, ap, subst}
 use mathlib.Core.List.{List}
+use native.Mathlib.Omega.{arith}
 use lib.ListN.{length}
 use Rattle.judge.specs.Acceptance.{Accepted, accept, sound, programRead}
 use Rattle.judge.specs.Judging.{judgeProgram}
 use Rattle.judge.specs.Judgement.{AcceptedAs}
 use Rattle.program.proofs.Contents.{length-threads, length-variables}
-use Rattle.program.proofs.Sound.{sound-file}
+use Rattle.program.proofs.Sound.{sound-file, instructions-few}
 use Rattle.program.specs.Choice.{Answer, fine, refused, _>>=_}
 use Rattle.program.specs.Layout.{Program, programOf, reading}
 use Rattle.program.specs.Sound.{SoundFile}
@@ -57,3 +58,9 @@ module _ (s : List ℕ) (l : Layout) where
 -- an accepted file is sound, so its counts are small
 pub opened-sound : {s : List ℕ} {l : Layout} → OpenedFile s l → SoundFile s l
 opened-sound {s} {l} o = sound-file s l (o .opened .reads)
+
+-- the counts of a sound file are small
+pub counts-small : (s : List ℕ) (l : Layout) → reading s ≡ Sound l → (l .threads ≤ 8) × (l .variables ≤ 64) × (l .instructions ≤ 8192)
+counts-small s l e =
+    let file = sound-file s l e in
+    omega (arith, file, instructions-few s (l .locks) (l .variables) (l .threads) (5 + 6 * l .variables) (l .instructions) (file .sections))

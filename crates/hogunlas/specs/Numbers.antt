@@ -7,6 +7,9 @@ use Rattle.hogunlas.specs.declared.Ran.{Ran}
 use Rattle.hogunlas.specs.declared.Ran.the-variants as ran
 use Rattle.hogunlas.specs.declared.export.JudgedNumbers.{JudgedNumbers}
 use Rattle.hogunlas.specs.declared.export.RanNumbers.{RanNumbers}
+use Rattle.hogunlas.specs.declared.Printed.{Printed}
+use Rattle.hogunlas.specs.declared.Printed.the-variants as printed
+use Rattle.hogunlas.specs.declared.export.PrintedNumbers.{PrintedNumbers}
 
 abbrev pub judgedNumbers : Judged → JudgedNumbers
 judgedNumbers (judged.Report n) = record { refusal = 0; detail = 0; length = n }
@@ -15,3 +18,7 @@ judgedNumbers (judged.Refused r) = record { refusal = numberOf r; detail = detai
 abbrev pub ranNumbers : Ran → RanNumbers
 ranNumbers (ran.Counts moved waiting idle) = record { refusal = 0; detail = 0; moved = moved; waiting = waiting; idle = idle }
 ranNumbers (ran.Refused r) = record { refusal = numberOf r; detail = detailOf r; moved = 0; waiting = 0; idle = 0 }
+
+abbrev pub printedNumbers : Printed → PrintedNumbers
+printedNumbers (printed.Line n) = record { refusal = 0; detail = 0; length = n }
+printedNumbers (printed.Refused r) = record { refusal = numberOf r; detail = detailOf r; length = 0 }

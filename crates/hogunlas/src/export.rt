@@ -1,15 +1,17 @@
 // The calls for C and Rust (include/hogunlas.h): answers as structs of numbers, refusal 0 for none. A slice is a pointer and a length.
 use crate::Judged;
+use crate::Printed;
 use crate::Ran;
 use crate::judge;
+use crate::line;
 use crate::run;
 use program::refusal::detail;
 use program::refusal::number;
 ghost use mathlib.Core.Path.{_≡_};
 ghost use lib.ListN.{length};
 ghost use Rattle.soundness.specs.Demand.{Demand3};
-ghost use Rattle.hogunlas.specs.Calls.{judgeAnswer, judgeBuffer, judgedOf, ranOf, runAnswer, runBuffer};
-ghost use Rattle.hogunlas.specs.Numbers.{judgedNumbers, ranNumbers};
+ghost use Rattle.hogunlas.specs.Calls.{judgeAnswer, judgeBuffer, judgedOf, lineAnswer, lineBuffer, printedOf, ranOf, runAnswer, runBuffer};
+ghost use Rattle.hogunlas.specs.Numbers.{judgedNumbers, printedNumbers, ranNumbers};
 
 #[repr(C)]
 pub struct JudgedNumbers {
@@ -68,6 +70,33 @@ pub extern "C" fn hogunlas_run(file: &[u8], list: &[u8], state: &mut [u8]) -> Ra
             moved: 0,
             waiting: 0,
             idle: 0,
+        },
+    }
+}
+
+#[repr(C)]
+pub struct PrintedNumbers {
+    pub refusal: u32,
+    pub detail: u64,
+    pub length: u64,
+}
+
+#[no_mangle]
+pub extern "C" fn hogunlas_line(file: &[u8], i: u64, text: &mut [u8]) -> PrintedNumbers
+    ensures result { λ r. ⌜ r ≡ printedNumbers (printedOf (lineAnswer (now (file .entry)) i (length (now (text .entry))))) ⌝ }
+    ensures buffer { λ _. ⌜ now (text .exit) ≡ lineBuffer (now (file .entry)) i (now (text .entry)) ⌝ }
+{
+    let printed = line(file, i as usize, text);
+    match printed {
+        Printed::Line(n) => PrintedNumbers {
+            refusal: 0,
+            detail: 0,
+            length: n as u64,
+        },
+        Printed::Refused(refusal) => PrintedNumbers {
+            refusal: number(refusal) as u32,
+            detail: detail(refusal) as u64,
+            length: 0,
         },
     }
 }

@@ -7,6 +7,8 @@ use crate::list::first_bad_thread;
 use judge::judging::Judging;
 use judge::judging::judge_file;
 use machine::run::run_list;
+use printout::print::line_count;
+use printout::print::write_line;
 use program::found::Found;
 use program::layout::Layout;
 use program::refusal::Refusal;
@@ -14,7 +16,7 @@ ghost use mathlib.Core.Path.{_≡_};
 ghost use lib.ListN.{length};
 ghost use Rattle.soundness.specs.Demand.{Demand3};
 ghost use Rattle.hogunlas.specs.Opened.{OpenedFile};
-ghost use Rattle.hogunlas.specs.Calls.{judgeAnswer, judgeBuffer, judgedOf, ranOf, runAnswer, runBuffer};
+ghost use Rattle.hogunlas.specs.Calls.{judgeAnswer, judgeBuffer, judgedOf, lineAnswer, lineBuffer, printedOf, ranOf, runAnswer, runBuffer};
 
 // What judge answers: the report's length, or the refusal.
 pub enum Judged {
@@ -88,5 +90,27 @@ pub fn run(file: &[u8], list: &[u8], out: &mut [u8]) -> Ran
     match judging {
         Judging::Refused(refusal) => Ran::Refused(refusal),
         Judging::Accepted(l, _) => run_accepted(file, l, list, out),
+    }
+}
+
+// Line i of the printout, laid over the front of the buffer.
+pub fn line(file: &[u8], i: usize, out: &mut [u8]) -> Printed
+    ensures result { λ r. ⌜ r ≡ printedOf (lineAnswer (now (file .entry)) i (length (now (out .entry)))) ⌝ }
+    ensures buffer { λ _. ⌜ now (out .exit) ≡ lineBuffer (now (file .entry)) i (now (out .entry)) ⌝ }
+{
+    let mut report = [0u8; 8200];
+    let judging = judge_file(file, &mut report);
+    match judging {
+        Judging::Refused(refusal) => Printed::Refused(refusal),
+        Judging::Accepted(l, _) => {
+            let count = line_count(l);
+            if count <= i {
+                return Printed::Refused(Refusal::LineNumber(count));
+            }
+            if out.len() < 48 {
+                return Printed::Refused(Refusal::ShortBuffer(48));
+            }
+            Printed::Line(write_line(file, l, &report, i, out))
+        }
     }
 }

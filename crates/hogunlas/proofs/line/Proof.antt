@@ -1,0 +1,89 @@
+-- `line` meets its contract: the file's refusals, no such line, a buffer that is too short, or the line laid over the buffer. Assumes
+-- nothing.
+use borrow.Author.Needs.{needs}
+use native.Mathlib.Omega.{arith}
+use Rattle.hogunlas.proofs.Answers.{as-accepted, as-refused, report-fits}
+use Rattle.hogunlas.proofs.Opening.{opened-by, counts-small}
+use Rattle.hogunlas.proofs.Printing.{line-refused, line-number, line-short, line-done}
+use Rattle.hogunlas.proofs.line.Statement.{statement}
+use Rattle.hogunlas.proofs.line.Tie as tie
+
+slice-aggregate-judge-file : tie.Need-slice-aggregate-judge-file
+slice-aggregate-judge-file c = search needs
+
+judge-file-requires : tie.Need-judge-file-requires
+judge-file-requires c κs = search needs
+
+enum-known-judging : tie.Need-enum-known-judging
+enum-known-judging c = search needs
+
+enum-known-judging-2 : tie.Need-enum-known-judging-2
+enum-known-judging-2 c = search needs
+
+line-count-requires : tie.Need-line-count-requires
+line-count-requires c κs =
+    let args = c .before .before .before .before .before .before .before .before .args in
+    let found = as-accepted _ _ _ _ (c .before .judging2 .given .1) (c .before .before .before .before .judge-file .ensures) in
+    counts-small (args .file .now) (c .before .judging2 .given .0 .0) (found .reads)
+
+returns : tie.Need-returns
+returns c =
+    let args = c .before .before .before .before .before .before .before .before .before .before .args in
+    let found = as-accepted _ _ _ _ (c .before .before .before .judging2 .given .1) (c .before .before .before .before .before .before .judge-file .ensures) in
+    let counted = c .before .line-count .ensures in
+    rw counted
+    (line-number (args .file .now) (args .i) (args .out .now) (c .before .before .before .judging2 .given .0 .0) (found .accepted .report) (opened-by found) (rw counted at (c .if1 .taken)))
+
+returns-2 : tie.Need-returns-2
+returns-2 c =
+    let args = c .before .before .before .before .before .before .before .before .before .before .before .args in
+    let found = as-accepted _ _ _ _ (c .before .before .before .before .judging2 .given .1) (c .before .before .before .before .before .before .before .judge-file .ensures) in
+    let counted = c .before .before .line-count .ensures in
+    line-short (args .file .now) (args .i) (args .out .now) (c .before .before .before .before .judging2 .given .0 .0) (found .accepted .report) (opened-by found)
+    (rw counted at (c .before .if1 .left)) (c .if2 .taken)
+
+slice-aggregate-write-line : tie.Need-slice-aggregate-write-line
+slice-aggregate-write-line c = search needs
+
+write-line-requires : tie.Need-write-line-requires
+write-line-requires c κs =
+    let found = as-accepted _ _ _ _ (c .before .before .before .before .before .before .judging2 .given .1) (c .before .before .before .before .before .before .before .before .before .judge-file .ensures) in
+    (found .reads
+    , omega (arith, found .counted, report-fits found)
+    , rw (c .before .before .before .before .line-count .ensures) at (c .before .before .before .if1 .left)
+    , c .before .before .if2 .left)
+
+returns-3 : tie.Need-returns-3
+returns-3 c =
+    let args = c .before .before .before .before .before .before .before .before .args in
+    line-refused (args .file .now) (args .i) (args .out .now) _
+    (as-refused _ _ _ _ (c .before .judging .given .1) (c .before .before .before .before .judge-file .ensures))
+
+same-length : tie.Need-same-length
+same-length c = search needs
+
+returns-4 : tie.Need-returns-4
+returns-4 c =
+    let args = c .before .before .before .before .before .before .before .before .before .before .before .before .before .before .before .before .args in
+    let found = as-accepted _ _ _ _ (c .before .before .before .before .before .before .before .before .before .judging2 .given .1) (c .before .before .before .before .before .before .before .before .before .before .before .before .judge-file .ensures) in
+    let counted = c .before .before .before .before .before .before .before .line-count .ensures in
+    line-done (args .file .now) (args .i) (args .out .now) (c .before .before .before .before .before .before .before .before .before .judging2 .given .0 .0) (found .accepted .report) (opened-by found)
+    (rw counted at (c .before .before .before .before .before .before .if1 .left)) (c .before .before .before .before .before .if2 .left) _ (omega (arith, found .counted, found .size))
+    _ (c .before .before .write-line .result) (rw (found .bytes) at (c .before .before .write-line .ensures))
+
+pub line-spec : {M : Type 1} → statement M
+line-spec =
+    tie.close
+    (tie.spec
+    slice-aggregate-judge-file
+    judge-file-requires
+    enum-known-judging
+    enum-known-judging-2
+    line-count-requires
+    returns
+    returns-2
+    slice-aggregate-write-line
+    write-line-requires
+    returns-3
+    same-length
+    returns-4)
