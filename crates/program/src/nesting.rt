@@ -210,38 +210,6 @@ fn innermost(entries: [Entry; 16], depth: usize) -> Top
     Top::Holds(entries[depth - 1])
 }
 
-// The array and the depth after a change.
-fn entries_after(entries: [Entry; 16], depth: usize, ch: Change) -> [Entry; 16]
-    requires { ⌜ (depth ≤ 16) × Room ch depth ⌝ }
-    ensures { λ r. ⌜ r ≡ entriesAfter ch depth entries ⌝ }
-{
-    let mut after = entries;
-    match ch {
-        Change::Keep => after,
-        Change::Push(e) => {
-            after[depth] = e;
-            after
-        }
-        Change::Replace(e) => {
-            after[depth - 1] = e;
-            after
-        }
-        Change::Pop => after,
-    }
-}
-
-fn depth_after(depth: usize, ch: Change) -> usize
-    requires { ⌜ (depth ≤ 16) × Room ch depth ⌝ }
-    ensures { λ r. ⌜ r ≡ depthAfter ch depth ⌝ }
-{
-    match ch {
-        Change::Keep => depth,
-        Change::Push(_) => depth + 1,
-        Change::Replace(_) => depth,
-        Change::Pop => depth - 1,
-    }
-}
-
 // Where nesting is first broken, as an offset: that of the instruction, or the section's end if an entry is open there.
 pub fn first_broken(s: &[u8], start: usize, n: usize, locks: usize, variables: usize) -> Found
     requires { ⌜ start + 4 * n ≤ length (now s) ⌝ }
@@ -257,10 +225,20 @@ pub fn first_broken(s: &[u8], start: usize, n: usize, locks: usize, variables: u
         let Turn::Goes(ch) = t else {
             return Found::At(at);
         };
-        let after = entries_after(entries, depth, ch);
-        entries = after;
-        depth = depth_after(depth, ch);
         p += 1;
+        match ch {
+            Change::Keep => {}
+            Change::Push(e) => {
+                entries[depth] = e;
+                depth += 1;
+            }
+            Change::Replace(e) => {
+                entries[depth - 1] = e;
+            }
+            Change::Pop => {
+                depth -= 1;
+            }
+        }
     }
     if depth == 0 {
         return Found::Nowhere;

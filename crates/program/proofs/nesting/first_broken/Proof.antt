@@ -1,6 +1,6 @@
 -- `first_broken`: the rest of the scan from this place, with the entries in the array, equals the whole. Assumes nothing.
 use Prim.Native.Nat.{_+_, _-_, _≤_}
-use mathlib.Core.Path.{_≡_, refl, sym, _∙_}
+use mathlib.Core.Path.{_≡_, refl, sym, _∙_, ap}
 use mathlib.Core.List.{[]}
 use lib.ListN.{length}
 use native.Mathlib.Omega.{arith}
@@ -10,6 +10,7 @@ use Rattle.program.specs.Nesting.{firstBroken, atCodeEnd}
 use Rattle.program.specs.Stack.{entriesOf, entriesAfter, depthAfter, Room}
 use Rattle.program.specs.declared.found.Found.the-variants.{At}
 use Rattle.program.specs.declared.nesting.Change.{Change}
+use Rattle.program.specs.declared.nesting.Change.the-variants.{Keep, Push, Replace, Pop}
 use Rattle.program.specs.declared.nesting.Turn.the-variants.{Broken, Goes}
 use Rattle.program.proofs.Scan.{restFrom, broken-start, broken-end, turn-broken, turn-room, turn-goes}
 use Rattle.program.proofs.Stack.{depth-change, length-change, entries-top}
@@ -27,6 +28,15 @@ abbrev μ-loop : tie.MeasureT-loop
 -- one turn, by what `innermost`, `form_of`, `instruction_at` and `turn_at` ensure
 abbrev Place : Type 0
 Place = tie.After-turn-at Inv-loop μ-loop
+
+-- the invariant, after a change of the entries
+abbrev Turned : Place → Change → Type 0
+Turned u ch =
+    let a = u .before .before .before .before .before .before .before .args in
+    let l = u .before .before .before .before .before .loop in
+    (l .p + 1 ≤ a .n) × (depthAfter ch (l .depth) ≤ 16) × (length (entriesAfter ch (l .depth) (l .entries)) ≡ 16)
+    × (restFrom (a .locks) (a .variables) (a .s .now) (a .start) (a .n) (l .p + 1) (entriesOf (depthAfter ch (l .depth)) (entriesAfter ch (l .depth) (l .entries)))
+    ≡ firstBroken 0 (instructionsAt (a .locks) (a .variables) (a .s .now) (a .n) (a .start)) [])
 
 ends : (u : Place) → u .turn-at .result ≡ Broken
     → firstBroken 0 (instructionsAt (u .before .before .before .before .before .before .before .args .locks) (u .before .before .before .before .before .before .before .args .variables) (u .before .before .before .before .before .before .before .args .s .now) (u .before .before .before .before .before .before .before .args .n) (u .before .before .before .before .before .before .before .args .start)) [] ≡ At (u .before .before .before .before .before .loop .p)
@@ -99,38 +109,84 @@ enum-told c = search needs
 returns : tie.Need-returns Inv-loop μ-loop
 returns c = rw (ends (c .before .before) (c .enum-told .given .1))
 
-entries-after-requires : tie.Need-entries-after-requires Inv-loop μ-loop
-entries-after-requires c κs = (omega arith, room (c .before .before .before) (c .before .t .given .0 .0) (c .before .t .given .1))
-
-depth-after-requires : tie.Need-depth-after-requires Inv-loop μ-loop
-depth-after-requires c κs = (omega arith, room (c .before .before .before .before) (c .before .before .t .given .0 .0) (c .before .before .t .given .1))
+-- the invariant after a change
+turned : (u : Place) (ch : Change) → u .turn-at .result ≡ Goes ch → Turned u ch
+turned u ch e =
+    let l = u .before .before .before .before .before .loop in
+    (omega (arith, u .before .before .before .before .loop-test .taken)
+    , depth-change ch (l .depth) (l .inv .1) (room u ch e)
+    , length-change ch (l .depth) (l .entries) ∙ l .inv .2
+    , goes u ch e)
 
 add-p : tie.Need-add-p Inv-loop μ-loop
 add-p c = omega arith
+
+enum-told-2 : tie.Need-enum-told-2 Inv-loop μ-loop
+enum-told-2 c = search needs
 
 loop-less : tie.Need-loop-less Inv-loop μ-loop
 loop-less c = omega arith
 
 loop-again : tie.Need-loop-again Inv-loop μ-loop
-loop-again c =
-    let l = c .before .before .before .before .before .before .before .before .before .before .loop in
-    let ch = c .before .before .before .t .given .0 .0 in
-    rw (c .before .entries-after .ensures, c .depth-after .ensures) (
-      omega arith,
-      depth-change ch (l .depth) (l .inv .1) (room (c .before .before .before .before .before) ch (c .before .before .before .t .given .1)),
-      length-change ch (l .depth) (l .entries) ∙ l .inv .2,
-      goes (c .before .before .before .before .before) ch (c .before .before .before .t .given .1),
-    )
+loop-again c = turned (c .before .before .before .before .before) Keep (c .before .before .before .t .given .1 ∙ ap Goes (c .enum-told2 .given .1))
+
+enum-known-ch : tie.Need-enum-known-ch Inv-loop μ-loop
+enum-known-ch c = search needs
+
+mul-entries : tie.Need-mul-entries Inv-loop μ-loop
+mul-entries c = omega arith
+
+array-set-from-entries : tie.Need-array-set-from-entries Inv-loop μ-loop
+array-set-from-entries c = room (c .before .before .before .before .before .before) (Push (c .before .ch .given .0 .0)) (c .before .before .before .before .t .given .1 ∙ ap Goes (c .before .ch .given .1))
+
+add-depth : tie.Need-add-depth Inv-loop μ-loop
+add-depth c = omega arith
+
+loop-less-2 : tie.Need-loop-less-2 Inv-loop μ-loop
+loop-less-2 c = omega arith
+
+loop-again-2 : tie.Need-loop-again-2 Inv-loop μ-loop
+loop-again-2 c = turned (c .before .before .before .before .before .before) (Push (c .before .ch .given .0 .0)) (c .before .before .before .before .t .given .1 ∙ ap Goes (c .before .ch .given .1))
+
+enum-known-ch-2 : tie.Need-enum-known-ch-2 Inv-loop μ-loop
+enum-known-ch-2 c = search needs
+
+sub-entries : tie.Need-sub-entries Inv-loop μ-loop
+sub-entries c = omega (arith, room (c .before .before .before .before .before .before) (Replace (c .before .ch2 .given .0 .0)) (c .before .before .before .before .t .given .1 ∙ ap Goes (c .before .ch2 .given .1)))
+
+mul-entries-2 : tie.Need-mul-entries-2 Inv-loop μ-loop
+mul-entries-2 c = omega arith
+
+array-set-from-entries-2 : tie.Need-array-set-from-entries-2 Inv-loop μ-loop
+array-set-from-entries-2 c = omega (arith, room (c .before .before .before .before .before .before) (Replace (c .before .ch2 .given .0 .0)) (c .before .before .before .before .t .given .1 ∙ ap Goes (c .before .ch2 .given .1)))
+
+loop-less-3 : tie.Need-loop-less-3 Inv-loop μ-loop
+loop-less-3 c = omega arith
+
+loop-again-3 : tie.Need-loop-again-3 Inv-loop μ-loop
+loop-again-3 c = turned (c .before .before .before .before .before .before) (Replace (c .before .ch2 .given .0 .0)) (c .before .before .before .before .t .given .1 ∙ ap Goes (c .before .ch2 .given .1))
+
+enum-told-3 : tie.Need-enum-told-3 Inv-loop μ-loop
+enum-told-3 c = search needs
+
+sub-depth : tie.Need-sub-depth Inv-loop μ-loop
+sub-depth c = omega (arith, room (c .before .before .before .before .before) Pop (c .before .before .before .t .given .1 ∙ ap Goes (c .enum-told3 .given .1)))
+
+loop-less-4 : tie.Need-loop-less-4 Inv-loop μ-loop
+loop-less-4 c = omega arith
+
+loop-again-4 : tie.Need-loop-again-4 Inv-loop μ-loop
+loop-again-4 c = turned (c .before .before .before .before .before) Pop (c .before .before .before .t .given .1 ∙ ap Goes (c .enum-told3 .given .1))
 
 returns-2 : tie.Need-returns-2 Inv-loop μ-loop
 unfolding entriesOf atCodeEnd
 returns-2 c = rw (at-end (c .before), c .if1 .taken)
 
-mul-t20 : tie.Need-mul-t20 Inv-loop μ-loop
-mul-t20 c = omega arith
+mul-t29 : tie.Need-mul-t29 Inv-loop μ-loop
+mul-t29 c = omega arith
 
-add-t21 : tie.Need-add-t21 Inv-loop μ-loop
-add-t21 c = omega arith
+add-t30 : tie.Need-add-t30 Inv-loop μ-loop
+add-t30 c = omega arith
 
 returns-3 : tie.Need-returns-3 Inv-loop μ-loop
 unfolding atCodeEnd
@@ -155,12 +211,27 @@ first-broken-spec =
     enum-known-t
     enum-told
     returns
-    entries-after-requires
-    depth-after-requires
     add-p
+    enum-told-2
     loop-less
     loop-again
+    enum-known-ch
+    mul-entries
+    array-set-from-entries
+    add-depth
+    loop-less-2
+    loop-again-2
+    enum-known-ch-2
+    sub-entries
+    mul-entries-2
+    array-set-from-entries-2
+    loop-less-3
+    loop-again-3
+    enum-told-3
+    sub-depth
+    loop-less-4
+    loop-again-4
     returns-2
-    mul-t20
-    add-t21
+    mul-t29
+    add-t30
     returns-3)
