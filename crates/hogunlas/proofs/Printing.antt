@@ -29,7 +29,7 @@ count l = 4 + l .variables + l .threads + l .instructions + l .threads
 module _ (s : List ℕ) (i : ℕ) (buffer : List ℕ) where
   -- the file is refused
   pub line-refused : (r : Refusal) → accept s ≡ refused r
-    → (printed.Refused r ≡ printedOf (lineAnswer s i (length buffer))) × (buffer ≡ lineBuffer s i buffer)
+      → (printed.Refused r ≡ printedOf (lineAnswer s i (length buffer))) × (buffer ≡ lineBuffer s i buffer)
   unfolding lineAnswer lineBuffer
   line-refused r e = rw e (refl, refl)
 
@@ -40,26 +40,26 @@ module _ (s : List ℕ) (i : ℕ) (buffer : List ℕ) where
 
     -- there is no such line
     pub line-number : count l ≤ i
-      → (printed.Refused (LineNumber (count l)) ≡ printedOf (lineAnswer s i (length buffer))) × (buffer ≡ lineBuffer s i buffer)
+        → (printed.Refused (LineNumber (count l)) ≡ printedOf (lineAnswer s i (length buffer))) × (buffer ≡ lineBuffer s i buffer)
     unfolding lineAnswer lineBuffer
     line-number h = rw (o .accepts, counted, le-ltb i (count l) h) (refl, refl)
 
     module _ (h : i < count l) where
       -- the buffer is too short for a line
       pub line-short : length buffer < 48
-        → (printed.Refused (ShortBuffer 48) ≡ printedOf (lineAnswer s i (length buffer))) × (buffer ≡ lineBuffer s i buffer)
+          → (printed.Refused (ShortBuffer 48) ≡ printedOf (lineAnswer s i (length buffer))) × (buffer ≡ lineBuffer s i buffer)
       unfolding lineAnswer lineBuffer
       line-short k = rw (o .accepts, counted, lt-ltb i (count l) h, lt-leb 48 (length buffer) k) (refl, refl)
 
       -- the line is laid over the buffer; the report stands at the front of a longer array
       pub line-done : 48 ≤ length buffer → (rest : List ℕ) → l .instructions + l .threads ≤ length report
-        → (exit : List ℕ) (size : ℕ) → Printed (getD (lines s (programOf s l) (report ++ rest)) i []) buffer exit size
-        → (printed.Line size ≡ printedOf (lineAnswer s i (length buffer))) × (exit ≡ lineBuffer s i buffer)
+          → (exit : List ℕ) (size : ℕ) → Printed (getD (lines s (programOf s l) (report ++ rest)) i []) buffer exit size
+          → (printed.Line size ≡ printedOf (lineAnswer s i (length buffer))) × (exit ≡ lineBuffer s i buffer)
       unfolding lineAnswer lineBuffer laidOver
       line-done k rest fits exit size w =
           let same : lines s (programOf s l) (report ++ rest) ≡ lines s (programOf s l) report =
-            lines-report s l report rest (sound-file s l (o .reads)) fits in
+          lines-report s l report rest (sound-file s l (o .reads)) fits in
           let shown : getD (lines s (programOf s l) (report ++ rest)) i [] ≡ getD (lines s (programOf s l) report) i [] =
-            ap (λ (ls : List (List ℕ)). getD ls i []) same in
+          ap (λ (ls : List (List ℕ)). getD ls i []) same in
           rw (o .accepts, counted, lt-ltb i (count l) h, le-leb 48 (length buffer) k)
           (ap printed.Line (w .counted ∙ ap length shown), w .bytes ∙ ap (λ (text : List ℕ). text ++ drop (length text) buffer) shown)

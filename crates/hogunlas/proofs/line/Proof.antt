@@ -47,11 +47,12 @@ slice-aggregate-write-line c = search needs
 
 write-line-requires : tie.Need-write-line-requires
 write-line-requires c κs =
-    let found = as-accepted _ _ _ _ (c .before .before .before .before .before .before .judging2 .given .1) (c .before .before .before .before .before .before .before .before .before .judge-file .ensures) in
-    (found .reads
-    , omega (arith, found .counted, report-fits found)
-    , rw (c .before .before .before .before .line-count .ensures) at (c .before .before .before .if1 .left)
-    , c .before .before .if2 .left)
+    let found = as-accepted _ _ _ _ (c .before .before .before .before .before .before .judging2 .given .1) (c .before .before .before .before .before .before .before .before .before .judge-file .ensures) in (
+      found .reads,
+      omega (arith, found .counted, report-fits found),
+      rw (c .before .before .before .before .line-count .ensures) at (c .before .before .before .if1 .left),
+      c .before .before .if2 .left,
+    )
 
 returns-3 : tie.Need-returns-3
 returns-3 c =

@@ -112,11 +112,12 @@ returns c = rw (ends (c .before .before) (c .enum-told .given .1))
 -- the invariant after a change
 turned : (u : Place) (ch : Change) → u .turn-at .result ≡ Goes ch → Turned u ch
 turned u ch e =
-    let l = u .before .before .before .before .before .loop in
-    (omega (arith, u .before .before .before .before .loop-test .taken)
-    , depth-change ch (l .depth) (l .inv .1) (room u ch e)
-    , length-change ch (l .depth) (l .entries) ∙ l .inv .2
-    , goes u ch e)
+    let l = u .before .before .before .before .before .loop in (
+      omega (arith, u .before .before .before .before .loop-test .taken),
+      depth-change ch (l .depth) (l .inv .1) (room u ch e),
+      length-change ch (l .depth) (l .entries) ∙ l .inv .2,
+      goes u ch e,
+    )
 
 add-p : tie.Need-add-p Inv-loop μ-loop
 add-p c = omega arith
