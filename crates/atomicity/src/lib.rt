@@ -82,11 +82,13 @@ impl Atomicity {
         }
     }
 
-    // This and then `b`.
+    // This and then `b`. It is asked once an instruction, so it reads its table in place: `entry` is handed a copy.
     pub fn then(self, b: Atomicity) -> Atomicity
         ensures { λ r. ⌜ r ≡ composition self b ⌝ }
     {
-        entry(COMPOSITION, self, b)
+        let i = index(self);
+        let j = index(b);
+        COMPOSITION[i][j]
     }
 
     // The least atomicity at or above both.
