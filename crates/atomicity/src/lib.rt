@@ -82,13 +82,11 @@ impl Atomicity {
         }
     }
 
-    // This and then `b`. It is asked once an instruction, so it reads its table in place: `entry` is handed a copy.
+    // This and then `b`.
     pub fn then(self, b: Atomicity) -> Atomicity
         ensures { λ r. ⌜ r ≡ composition self b ⌝ }
     {
-        let i = index(self);
-        let j = index(b);
-        COMPOSITION[i][j]
+        entry(COMPOSITION, self, b)
     }
 
     // The least atomicity at or above both.
