@@ -13,6 +13,7 @@ mod writer;
 pub use damage::{damaged_file, nearly_accepted_file};
 pub use limits::{deep_file, largest_file, limit_file};
 pub use lists::{good_list, list, longest_list};
+pub use program::encode_file;
 pub use rng::Rng;
 
 use program::{Source, Style};

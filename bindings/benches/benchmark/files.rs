@@ -1,23 +1,13 @@
 //! The files that are measured.
 
+use hogunlas_reference::generate::encode_file;
 use hogunlas_reference::instruction::Instruction::{self, *};
 
 const GUARDED_BY_K0: [u8; 6] = [0, 0, 0, 0, 0, 7];
 
 /// A file of 16 locks with 64 variables, all guarded by k0.
 fn file(code: &[Vec<Instruction>]) -> Vec<u8> {
-    let mut file = vec![1, 16, code.len() as u8];
-    push_section(&mut file, &GUARDED_BY_K0.repeat(64));
-    for thread in code {
-        let words: Vec<[u8; 4]> = thread.iter().map(|word| word.encode()).collect();
-        push_section(&mut file, &words.concat());
-    }
-    file
-}
-
-fn push_section(file: &mut Vec<u8>, bytes: &[u8]) {
-    file.extend_from_slice(&(bytes.len() as u16).to_be_bytes());
-    file.extend_from_slice(bytes);
+    encode_file(16, &[GUARDED_BY_K0; 64], code)
 }
 
 /// TAKE k0, READs, GIVE k0: so many instructions in all.

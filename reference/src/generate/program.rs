@@ -20,7 +20,6 @@ pub(super) enum Style {
 #[derive(Clone, Debug)]
 pub(super) struct Source {
     pub locks: u8,
-    pub threads: u8,
     pub variables: Vec<[u8; 6]>,
     pub code: Vec<Vec<Instruction>>,
 }
@@ -72,7 +71,6 @@ impl Source {
     ) -> Source {
         Source {
             locks: locks as u8,
-            threads: threads as u8,
             variables: (0..variables)
                 .map(|_| variable(rng, locks, threads))
                 .collect(),
@@ -81,14 +79,23 @@ impl Source {
     }
 
     pub(super) fn encode(&self) -> Vec<u8> {
-        let mut file = vec![1, self.locks, self.threads];
-        push_section(&mut file, &self.variables.concat());
-        for code in &self.code {
-            let words: Vec<[u8; 4]> = code.iter().map(|word| word.encode()).collect();
-            push_section(&mut file, &words.concat());
-        }
-        file
+        encode_file(self.locks, &self.variables, &self.code)
     }
+}
+
+/// A file from its parts: the locks, the variable records, and each thread's code.
+pub fn encode_file<C: AsRef<[Instruction]>>(
+    locks: u8,
+    variables: &[[u8; 6]],
+    code: &[C],
+) -> Vec<u8> {
+    let mut file = vec![1, locks, code.len() as u8];
+    push_section(&mut file, &variables.concat());
+    for thread in code {
+        let words: Vec<[u8; 4]> = thread.as_ref().iter().map(|word| word.encode()).collect();
+        push_section(&mut file, &words.concat());
+    }
+    file
 }
 
 fn push_section(file: &mut Vec<u8>, bytes: &[u8]) {

@@ -1,6 +1,7 @@
 //! Helpers shared by the tests.
 #![allow(dead_code)] // no test program uses all of them
 
+use hogunlas_reference::generate::encode_file;
 use hogunlas_reference::instruction::Instruction;
 use hogunlas_reference::{judge, line, run, Counts, Refusal};
 
@@ -55,18 +56,7 @@ pub fn refused<T>(number: u32, detail: u64) -> Result<T, Refusal> {
 
 /// A file from its parts.
 pub fn file(locks: u8, variables: &[[u8; 6]], code: &[&[Instruction]]) -> Vec<u8> {
-    let mut file = vec![1, locks, code.len() as u8];
-    push_section(&mut file, &variables.concat());
-    for thread in code {
-        let words: Vec<[u8; 4]> = thread.iter().map(|word| word.encode()).collect();
-        push_section(&mut file, &words.concat());
-    }
-    file
-}
-
-fn push_section(file: &mut Vec<u8>, bytes: &[u8]) {
-    file.extend_from_slice(&(bytes.len() as u16).to_be_bytes());
-    file.extend_from_slice(bytes);
+    encode_file(locks, variables, code)
 }
 
 /// Bytes from hexadecimal; `-` stands for none, blanks may separate bytes.
