@@ -3,8 +3,6 @@
  * says what is wrong and ends with 1.
  *
  *     cc -I../include c/example.c ../target/staticlib/libhogunlas.a
- *
- * -D HAVE_RUN and -D HAVE_LINE try those calls too; without them the archive needs only judge.
  */
 #include <stdio.h>
 #include <string.h>
@@ -70,7 +68,6 @@ static int try_judge(void)
     return 0;
 }
 
-#ifdef HAVE_RUN
 static int try_run(void)
 {
     static const uint8_t list[] = {0, 0, 0, 0};
@@ -101,9 +98,7 @@ static int try_run(void)
     printf("run: moved %d, waiting %d, idle %d\n", (int)ran.moved, (int)ran.waiting, (int)ran.idle);
     return 0;
 }
-#endif
 
-#ifdef HAVE_LINE
 static int try_line(void)
 {
     uint8_t text[HOGUNLAS_LINE_BUFFER];
@@ -129,19 +124,14 @@ static int try_line(void)
     }
     return 0;
 }
-#endif
 
 int main(void)
 {
     if (try_judge() != 0)
         return 1;
-#ifdef HAVE_RUN
     if (try_run() != 0)
         return 1;
-#endif
-#ifdef HAVE_LINE
     if (try_line() != 0)
         return 1;
-#endif
     return 0;
 }

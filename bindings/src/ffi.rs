@@ -20,7 +20,6 @@ pub(crate) struct Judged {
 }
 
 /// `hogunlas_ran`.
-#[cfg(feature = "run")]
 #[repr(C)]
 pub(crate) struct Ran {
     pub refusal: u32,
@@ -31,7 +30,6 @@ pub(crate) struct Ran {
 }
 
 /// `hogunlas_printed`.
-#[cfg(feature = "line")]
 #[repr(C)]
 pub(crate) struct Printed {
     pub refusal: u32,
@@ -47,7 +45,6 @@ extern "C" {
         report_length: usize,
     ) -> Judged;
 
-    #[cfg(feature = "run")]
     fn hogunlas_run(
         file: *const u8,
         file_length: usize,
@@ -57,7 +54,6 @@ extern "C" {
         state_length: usize,
     ) -> Ran;
 
-    #[cfg(feature = "line")]
     fn hogunlas_line(
         file: *const u8,
         file_length: usize,
@@ -72,7 +68,6 @@ pub(crate) fn judge(file: &[u8], report: &mut [u8]) -> Judged {
     unsafe { hogunlas_judge(file.as_ptr(), file.len(), report.as_mut_ptr(), report.len()) }
 }
 
-#[cfg(feature = "run")]
 pub(crate) fn run(file: &[u8], list: &[u8], state: &mut [u8]) -> Ran {
     // SAFETY: each pointer comes with its own slice's length; see the top of this module.
     unsafe {
@@ -87,7 +82,6 @@ pub(crate) fn run(file: &[u8], list: &[u8], state: &mut [u8]) -> Ran {
     }
 }
 
-#[cfg(feature = "line")]
 pub(crate) fn line(file: &[u8], i: u64, text: &mut [u8]) -> Printed {
     // SAFETY: each pointer comes with its own slice's length; see the top of this module.
     unsafe { hogunlas_line(file.as_ptr(), file.len(), i, text.as_mut_ptr(), text.len()) }

@@ -7,12 +7,6 @@
 //!
 //! The work is done by `libhogunlas.a`, which `rt staticlib hogunlas` makes of proved code. What
 //! is trusted here beside it is the module `ffi`: that the declarations are those of the archive.
-//!
-//! | call | cargo feature |
-//! |---|---|
-//! | [`judge`] | none: it is always there |
-//! | `run` | `run` |
-//! | `line` | `line` |
 #![deny(unsafe_code)]
 
 mod ffi;
@@ -94,7 +88,6 @@ pub fn judge(file: &[u8], report: &mut [u8]) -> Result<usize, Refusal> {
 }
 
 /// How many entries of a list were of each kind; their sum is the list's length.
-#[cfg(feature = "run")]
 #[derive(Clone, Copy, Debug, Default, PartialEq, Eq, Hash)]
 pub struct Counts {
     pub moved: u64,
@@ -121,7 +114,6 @@ pub struct Counts {
 /// assert_eq!(state[..7], [0, 0, 0, 5, 0, 0, 3]); // v0, k0, the thread's place
 /// # Ok::<(), hogunlas::Refusal>(())
 /// ```
-#[cfg(feature = "run")]
 pub fn run(file: &[u8], list: &[u8], state: &mut [u8]) -> Result<Counts, Refusal> {
     let ran = ffi::run(file, list, state);
     let counts = [ran.moved, ran.waiting, ran.idle];
@@ -148,7 +140,6 @@ pub fn run(file: &[u8], list: &[u8], state: &mut [u8]) -> Result<Counts, Refusal
 /// assert_eq!(&text[..length], b"10 02 00 00 1 READ r2 v0 B\n");
 /// # Ok::<(), hogunlas::Refusal>(())
 /// ```
-#[cfg(feature = "line")]
 pub fn line(file: &[u8], i: u64, text: &mut [u8]) -> Result<usize, Refusal> {
     let printed = ffi::line(file, i, text);
     Refusal::none_or(printed.refusal, printed.detail, &[printed.length])?;

@@ -18,21 +18,13 @@ fn exported() -> Vec<String> {
     names.take(count).map(text).collect()
 }
 
-/// A call that is exported but switched off would go untested.
+/// No call is missing, and none is exported that this crate does not wrap and test.
 #[test]
-fn the_features_are_the_archives_calls() {
-    let exported = exported();
-    for (call, on) in [
-        ("hogunlas_judge", true),
-        ("hogunlas_run", cfg!(feature = "run")),
-        ("hogunlas_line", cfg!(feature = "line")),
-    ] {
-        let there = exported.iter().any(|name| name == call);
-        assert!(
-            there == on,
-            "{call}: in the archive {there}, switched on {on}; see `default` in Cargo.toml"
-        );
-    }
+fn the_calls_are_the_archives() {
+    let mut calls = exported();
+    calls.retain(|name| name.starts_with("hogunlas_"));
+    calls.sort();
+    assert_eq!(calls, ["hogunlas_judge", "hogunlas_line", "hogunlas_run"]);
 }
 
 #[test]

@@ -34,12 +34,6 @@ fn compile(program: &Path) -> Output {
         "-O2",
     ]);
     cc.arg("-I../include");
-    if cfg!(feature = "run") {
-        cc.arg("-DHAVE_RUN");
-    }
-    if cfg!(feature = "line") {
-        cc.arg("-DHAVE_LINE");
-    }
     cc.args(["c/example.c", env!("HOGUNLAS_ARCHIVE"), "-o"]);
     cc.arg(program).output().expect("cc starts")
 }
@@ -51,13 +45,7 @@ fn the_c_program_prints_the_example() {
     let said = String::from_utf8_lossy(&compiled.stderr);
     assert!(compiled.status.success(), "cc: {said}");
     let ran = Command::new(&program).output().expect("the program starts");
-    let mut wanted = String::from(REPORT);
-    if cfg!(feature = "run") {
-        wanted += COUNTS;
-    }
-    if cfg!(feature = "line") {
-        wanted += PRINTOUT;
-    }
+    let wanted = [REPORT, COUNTS, PRINTOUT].concat();
     assert_eq!(String::from_utf8_lossy(&ran.stdout), wanted);
     assert!(ran.status.success(), "{}", ran.status);
 }

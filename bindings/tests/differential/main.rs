@@ -4,9 +4,7 @@
 //! A seed names a file (`generate` of the reimplementation), so a failure is repeated by its seed.
 
 mod judge;
-#[cfg(feature = "line")]
 mod line;
-#[cfg(feature = "run")]
 mod run;
 mod support;
 mod vectors;

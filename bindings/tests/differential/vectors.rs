@@ -103,7 +103,6 @@ fn judge_answers_its_vectors() {
     );
 }
 
-#[cfg(feature = "run")]
 #[test]
 fn run_answers_its_vectors() {
     let answer = |fields: &[&str]| match fields {
@@ -126,7 +125,6 @@ fn run_answers_its_vectors() {
     });
 }
 
-#[cfg(feature = "line")]
 #[test]
 fn line_answers_its_vectors() {
     let answer = |fields: &[&str]| match fields {

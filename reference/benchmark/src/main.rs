@@ -1,6 +1,6 @@
 //! What the verified library costs beside the reimplementation, as one table.
 //!
-//!     cargo bench --offline
+//!     cargo run --offline --release
 //!
 //! It prints and asserts nothing about time. The two sides take turns, so that a busy machine
 //! slows both; each number is a median.
@@ -107,7 +107,6 @@ fn judge_rows() {
 }
 
 /// run through the longest list, a step of each thread in turn.
-#[cfg(feature = "run")]
 fn run_rows() {
     use hogunlas::{MAX_LIST, MAX_STATE};
     let file = files::busy_threads();
@@ -135,7 +134,6 @@ fn run_rows() {
 }
 
 /// line judges the file anew; the last line is the dearest to find.
-#[cfg(feature = "line")]
 fn line_rows() {
     use hogunlas::LINE_BUFFER;
     let file = files::full_of_reads();
@@ -177,9 +175,7 @@ fn main() {
     println!("| call | verified | reimplementation | ratio |");
     println!("|---|---|---|---|");
     judge_rows();
-    #[cfg(feature = "run")]
     run_rows();
-    #[cfg(feature = "line")]
     line_rows();
     bench_rows();
 }

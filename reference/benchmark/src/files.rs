@@ -35,7 +35,6 @@ pub fn one_thread(instructions: usize) -> Vec<u8> {
 
 /// Eight threads that never end. In each round a thread adds to v0 in a block and then calculates
 /// for a while, so that most steps move and some wait.
-#[cfg(feature = "run")]
 pub fn busy_threads() -> Vec<u8> {
     let body = [&add_to_v0()[..], &calculate().repeat(12)].concat();
     let distance = body.len() as u16 + 1;
@@ -44,7 +43,6 @@ pub fn busy_threads() -> Vec<u8> {
     file(&vec![thread; 8])
 }
 
-#[cfg(feature = "run")]
 fn add_to_v0() -> [Instruction; 7] {
     let (to, left, right) = (2, 2, 1);
     [
@@ -61,7 +59,6 @@ fn add_to_v0() -> [Instruction; 7] {
     ]
 }
 
-#[cfg(feature = "run")]
 fn calculate() -> [Instruction; 6] {
     let (to, left, right) = (3, 3, 1);
     [

@@ -19,7 +19,7 @@ const RUNS: usize = 200;
 pub fn verified() -> Option<PathBuf> {
     let program = match env::var_os("HOGUNLAS_BENCH") {
         Some(program) => PathBuf::from(program),
-        None => Path::new(env!("CARGO_MANIFEST_DIR")).join("../target/bin/bench"),
+        None => Path::new(env!("CARGO_MANIFEST_DIR")).join("../../target/bin/bench"),
     };
     program.is_file().then_some(program)
 }
