@@ -2,6 +2,7 @@
 --     length-frames, frames-past            the frames of an array, innermost first
 --     Scanning                              what holds at the loop's head
 --     scanning-start                        ... where the loop begins
+--     next-valid                            the next instruction is valid
 --     next-passed, ends-plain               a plain instruction
 --     next-pass, next-open, next-replace, next-close    ... after each step
 --     ends-refuse, ends-full, ends-bare     a step that ends the scan with a refusal
@@ -21,10 +22,10 @@ use Rattle.atomicity.specs.Atomicity.{reportByte, composition}
 use Rattle.atomicity.specs.declared.Atomicity.{Atomicity}
 use Rattle.atomicity.specs.declared.Atomicity.the-variants.{Both}
 use Rattle.program.specs.Choice.{Answer, fine, refused, _>>=_}
-use Rattle.program.specs.Instruction.{decodeAt, instructionOf, formOf}
+use Rattle.program.specs.Instruction.{decodeAt, instructionOf, isValid, formOf}
 use Rattle.program.specs.declared.instruction.Form.the-variants as form
 use Rattle.judge.specs.Discipline.{atomicityOf, locksAfter}
-use Rattle.program.specs.Layout.{Program, programOf, instructionsAt}
+use Rattle.program.specs.Layout.{AllValid, Program, programOf, instructionsAt}
 use Rattle.program.specs.declared.instruction.Instruction.{Instruction}
 use Rattle.program.specs.declared.layout.Layout.{Layout}
 use Rattle.program.specs.declared.refusal.Refusal.{Refusal}
@@ -96,6 +97,14 @@ module _ (s : List ℕ) (l : Layout) (t start count at : ℕ) (report₀ : List 
     kept = refl;
     rest = rw (e₁, e₂);
   }
+
+  -- the next instruction is valid
+  pub next-valid : (report : List ℕ) (frames : List Frame) (depth : ℕ) (locks : LockSet) (sofar : Atomicity) (d here left : ℕ)
+      → Scanning report frames depth locks sofar d here left → 0 < left → AllValid (l .locks) (l .variables) s count start
+      → isValid (decodeAt (l .locks) (l .variables) s d) ≡ true
+  next-valid report frames depth locks sofar d here left x more valid =
+      let e : d ≡ start + 4 * (count - left) = omega (arith, x .offset, x .bound) in
+      rw e (valid (count - left) (omega (arith, x .bound)))
 
   -- one more instruction
   scan-cons : (d here n : ℕ) (y : Carried)

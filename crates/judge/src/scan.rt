@@ -12,13 +12,13 @@ use crate::turn::take_turn;
 use atomicity::Atomicity;
 use program::instruction::Form;
 use program::instruction::form_of;
-use program::instruction::instruction_at;
+use program::instruction::valid_instruction_at;
 use program::layout::Layout;
 use program::refusal::Refusal;
 ghost use mathlib.Core.Path.{_≡_};
 ghost use Prim.Native.Nat.{_+_, _*_, _≤_};
 ghost use lib.ListN.{length, set};
-ghost use Rattle.program.specs.Layout.{programOf, instructionsAt};
+ghost use Rattle.program.specs.Layout.{AllValid, programOf, instructionsAt};
 ghost use Rattle.judge.specs.Scan.{reported, scanThread, wholeFrame};
 
 // A byte of the report. An index past the buffer's end stores nothing.
@@ -54,7 +54,8 @@ pub fn scan_thread(
     at: usize,
     report: &mut [u8],
 ) -> Verdict
-    requires { ⌜ (5 + 6 * l .variables ≤ length (now s)) × (start + 4 * count ≤ length (now s)) × (at + count ≤ 65536) ⌝ }
+    requires { ⌜ (5 + 6 * l .variables ≤ length (now s)) × (start + 4 * count ≤ length (now s)) × (at + count ≤ 65536)
+        × AllValid (l .locks) (l .variables) (now s) count start ⌝ }
     ensures { λ r. ⌜ reported r (now (report .exit)) ≡ scanThread (programOf (now (s .entry)) l) thread at (now (report .entry))
         (record { start = start; code = instructionsAt (l .locks) (l .variables) (now (s .entry)) count start }) ⌝ }
 {
@@ -73,7 +74,7 @@ pub fn scan_thread(
         d += 4;
         here += 1;
         left -= 1;
-        let i = instruction_at(s, offset, l.locks, l.variables);
+        let i = valid_instruction_at(s, offset);
         let form = form_of(i);
         if let Form::Plain = form {
             let verdict = offence(s, l, thread, offset, i, &locks.held);

@@ -95,7 +95,7 @@ module _ (s : List ℕ) (l : Layout) (t at : ℕ) (h : t < l .threads) (x : Sect
 
   pub section-located : Located s l (at + 2) (countAt s at) t
   section-located =
-      record { code = code-here; inside = section-sound .whole; short = section-sound .few; nested = rw code-here (section-sound .nested) }
+      record { code = code-here; inside = section-sound .whole; short = section-sound .few; valid = section-sound .valid; nested = rw code-here (section-sound .nested) }
 
 -- a thread more is located
 pub located-next : (s : List ℕ) (l : Layout) (starts sizes : List ℕ) (t a n : ℕ) → t < length starts → t < length sizes

@@ -2,8 +2,11 @@
 -- file each thread's code lies. Its callers meet only `Entries` and `countsOf`, which stand in its contract.
 use Prim.Native.Nat.{ℕ, _+_, _*_, _≤_, _<_}
 use mathlib.Core.Path.{_≡_}
+use mathlib.Core.Bool.{true}
 use mathlib.Core.List.{List, []}
 use lib.ListN.{length, getD, take, replicate}
+use Rattle.program.specs.Instruction.{decodeAt}
+use Rattle.program.specs.Instruction
 use Rattle.program.specs.Layout.{programOf, instructionsAt}
 use Rattle.program.specs.Nesting.{firstBroken}
 use Rattle.program.specs.declared.found.Found.the-variants.{Nowhere}
@@ -35,11 +38,12 @@ fromHere l variables locks = record { counts = record { moved = 0; waiting = 0; 
 abbrev pub ranIn : Layout → Ran → (variables locks : List ℕ) → Run
 ranIn l r variables locks = record { counts = countsOf (r .counts); state = stateIn l variables locks (r .threads) }
 
--- a thread's code lies in the file from its start on, is short, and is well nested
+-- a thread's code lies in the file from its start on, is short, and each instruction is valid; it is well nested
 pub record Located (s : List ℕ) (l : Layout) (start size t : ℕ) : Type 0 where
   pub code : codeOf (programOf s l) t ≡ instructionsAt (l .locks) (l .variables) s size start
   pub inside : start + 4 * size ≤ length s
   pub short : size ≤ 1024
+  pub valid : (i : ℕ) → i < size → Instruction.isValid (decodeAt (l .locks) (l .variables) s (start + 4 * i)) ≡ true
   pub nested : firstBroken 0 (codeOf (programOf s l) t) [] ≡ Nowhere
 
 -- the file's counts fit the arrays, and each thread's code is found

@@ -1,6 +1,6 @@
 // The step machine (document 01, "The step machine").
-pub mod bytes;
 pub mod entry;
 pub mod prepare;
 pub mod run;
+pub mod state_bytes;
 pub mod thread;

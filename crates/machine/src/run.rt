@@ -1,12 +1,12 @@
 // A list of entries, run from the start (document 01, "The step machine").
-use crate::bytes::write_state;
 use crate::entry::Shared;
 use crate::entry::access;
 use crate::prepare::find_code;
 use crate::prepare::initial_values;
+use crate::state_bytes::write_state;
 use crate::thread::Thread;
 use crate::thread::thread_after;
-use program::instruction::instruction_at;
+use program::instruction::valid_instruction_at;
 use program::layout::Layout;
 ghost use mathlib.Core.Path.{_≡_};
 ghost use mathlib.Core.List.{_++_};
@@ -31,7 +31,8 @@ pub struct Ran {
     pub threads: [Thread; 8],
 }
 
-// The entries of a list, one after the other.
+// The entries of a list, one after the other. The layout is there for the contract: a sound file's instructions are valid, so the loop
+// reads them without its counts.
 fn entries(
     s: &[u8],
     l: Layout,
@@ -63,7 +64,7 @@ fn entries(
         if place == sizes[at] {
             idle += 1;
         } else {
-            let ins = instruction_at(s, starts[at] + 4 * place, l.locks, l.variables);
+            let ins = valid_instruction_at(s, starts[at] + 4 * place);
             let r = th.registers;
             match access(ins, t, r, variables, locks) {
                 Shared::Waits => {

@@ -3,7 +3,7 @@ use program::instruction::Instruction;
 ghost use mathlib.Core.Path.{_≡_};
 ghost use Prim.Native.Nat.{_+_, _-_, _%_, _^_, _≤_, _<_};
 ghost use lib.ListN.{set};
-ghost use lib.Dec.{ltb};
+ghost use lib.Dec.{ltb, eqb};
 ghost use Rattle.program.specs.Choice.{choose};
 ghost use Rattle.program.specs.Sound.{FieldsGood};
 ghost use Rattle.machine.specs.Step.{reg, registersAfter, branch, placeAfter, threadAfter};
@@ -27,14 +27,29 @@ pub fn register(registers: [u32; 8], a: u8) -> u32
     registers[a as usize]
 }
 
-// The registers with another value in one.
+// One register of eight: x if it is the one named.
+fn chosen(a: u8, k: u8, x: u32, y: u32) -> u32
+    ensures { λ r. ⌜ r ≡ choose (eqb a k) x y ⌝ }
+{
+    if a == k { x } else { y }
+}
+
+// The registers with another value in one. Each is chosen, so that all eight are stored together: a store of one alone makes the
+// processor wait where they are next read together.
 fn with_register(registers: [u32; 8], a: u8, x: u32) -> [u32; 8]
     requires { ⌜ a < 8 ⌝ }
     ensures { λ r. ⌜ r ≡ set registers a x ⌝ }
 {
-    let mut r = registers;
-    r[a as usize] = x;
-    r
+    [
+        chosen(a, 0, x, registers[0]),
+        chosen(a, 1, x, registers[1]),
+        chosen(a, 2, x, registers[2]),
+        chosen(a, 3, x, registers[3]),
+        chosen(a, 4, x, registers[4]),
+        chosen(a, 5, x, registers[5]),
+        chosen(a, 6, x, registers[6]),
+        chosen(a, 7, x, registers[7]),
+    ]
 }
 
 // The registers after an instruction, where a READ finds `value`.

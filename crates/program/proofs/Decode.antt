@@ -1,6 +1,7 @@
 -- What a decoded instruction's fields satisfy. Assumes nothing.
 --     decode-fields        of valid bytes
 --     instruction-fields   of the instruction at any offset, valid or not
+--     valid-row, last-row  the instruction that an op code says where its fields are right
 use Prim.Native.Nat.{ℕ, _+_, _*_, _<_}
 use mathlib.Core.Path.{_≡_, refl, subst}
 use mathlib.Core.Bool.{Bool, true, false, _&&_, and-eq-true-iff}
@@ -9,7 +10,7 @@ use lib.Dec.{ltb, eqb}
 use borrow.Author.Tests.{ltb-true}
 use Rattle.program.specs.Choice.{choose}
 use Rattle.program.specs.Field.{byteAt}
-use Rattle.program.specs.Instruction.{decode, decodeAt, instructionOf, isRegister, isZero}
+use Rattle.program.specs.Instruction.{decode, decodeAt, instructionOf, isRegister, isZero, isValid}
 use Rattle.program.specs.Sound.{FieldsGood}
 use Rattle.program.specs.declared.instruction.Instruction.{Instruction}
 use Rattle.program.specs.declared.instruction.Instruction.the-variants.{Set, Copy, Add, Sub, Less, Read, Write, Take, Give, If, Else, While, Again, Atomic, End}
@@ -88,3 +89,15 @@ unfolding decodeAt
 instruction-fields locks variables s at =
     instruction-of locks variables (decodeAt locks variables s at)
     (decoded-good locks variables (byteAt s at) (byteAt s (at + 1)) (byteAt s (at + 2)) (byteAt s (at + 3)))
+
+-- of a row whose fields are right its instruction is decoded
+pub valid-row : (fields : Bool) (i : Instruction) → isValid (choose fields (Valid i) Invalid) ≡ true
+    → i ≡ instructionOf (choose fields (Valid i) Invalid)
+valid-row true i e = refl
+valid-row false i e = cc
+
+-- of END's row, the last, and of an unknown op code: END
+pub last-row : (here fields : Bool) → End ≡ instructionOf (choose here (choose fields (Valid End) Invalid) Invalid)
+last-row true true = refl
+last-row true false = refl
+last-row false fields = refl

@@ -62,30 +62,30 @@ module _ (locks variables : ℕ) (s : List ℕ) (start n : ℕ) where
       let o : start + 4 * 0 ≡ start = omega arith in
       rw (m, o)
 
--- one turn of the scan, the entries in an array: f is the form of the instruction i at place p, top the innermost entry, and t what is
+-- one turn of the scan, the entries in an array: f is the form of the instruction at place p, top the innermost entry, and t what is
 -- right whatever lies below it
-module _ (locks variables : ℕ) (s : List ℕ) (start n p d : ℕ) (xs : List Entry) (t : Turn) (top : Top) (f : Form) (i : Instruction)
-    (is-i : i ≡ instructionOf (decodeAt locks variables s (start + 4 * p))) (is-f : f ≡ formOf i)
-    (is-top : entriesOf d xs ≡ under top (entriesOf (d - 1) xs))
-    (right : (below : List Entry) → length (under top below) ≡ d → Right t top below (nest p f (under top below)))
-    (inside : p < n) where
+module _ (p d : ℕ) (xs : List Entry) (t : Turn) (top : Top) (f : Form) (is-top : entriesOf d xs ≡ under top (entriesOf (d - 1) xs))
+    (right : (below : List Entry) → length (under top below) ≡ d → Right t top below (nest p f (under top below))) where
   depth : length (under top (entriesOf (d - 1) xs)) ≡ d
   depth = rw (← is-top) (length-entries d xs)
 
-  there : turned t top (entriesOf (d - 1) xs) ≡ nestAt locks variables s start n p (entriesOf d xs)
-  there = rw (is-top, ← is-i, ← is-f) (right (entriesOf (d - 1) xs) depth .does)
-
-  -- broken: the scan ends
-  pub turn-broken : t ≡ Broken → restFrom locks variables s start n p (entriesOf d xs) ≡ At p
-  turn-broken e = broken-here locks variables s start n p (entriesOf d xs) inside (sym (rw e at there))
-
-  -- a change: it has room, and the scan goes on with it
+  -- a change has room
   pub turn-room : (ch : Change) → t ≡ Goes ch → Room ch d
   turn-room ch e = rw (e, depth) at (right (entriesOf (d - 1) xs) depth .room)
 
-  pub turn-goes : (ch : Change) → t ≡ Goes ch → length xs ≡ 16 → d ≤ 16
-      → restFrom locks variables s start n p (entriesOf d xs)
-      ≡ restFrom locks variables s start n (p + 1) (entriesOf (depthAfter ch d) (entriesAfter ch d xs))
-  turn-goes ch e l h =
-      broken-next locks variables s start n p (entriesOf d xs) (entriesOf (depthAfter ch d) (entriesAfter ch d xs)) inside
-      (sym (rw e at there) ∙ ap opened (sym (entries-change ch d xs top l h (turn-room ch e) is-top)))
+  module _ (locks variables : ℕ) (s : List ℕ) (start n : ℕ) (i : Instruction)
+      (is-i : i ≡ instructionOf (decodeAt locks variables s (start + 4 * p))) (is-f : f ≡ formOf i) (inside : p < n) where
+    there : turned t top (entriesOf (d - 1) xs) ≡ nestAt locks variables s start n p (entriesOf d xs)
+    there = rw (is-top, ← is-i, ← is-f) (right (entriesOf (d - 1) xs) depth .does)
+
+    -- broken: the scan ends
+    pub turn-broken : t ≡ Broken → restFrom locks variables s start n p (entriesOf d xs) ≡ At p
+    turn-broken e = broken-here locks variables s start n p (entriesOf d xs) inside (sym (rw e at there))
+
+    -- a change: the scan goes on with it
+    pub turn-goes : (ch : Change) → t ≡ Goes ch → length xs ≡ 17 → d ≤ 16
+        → restFrom locks variables s start n p (entriesOf d xs)
+        ≡ restFrom locks variables s start n (p + 1) (entriesOf (depthAfter ch d) (entriesAfter ch d xs))
+    turn-goes ch e l h =
+        broken-next locks variables s start n p (entriesOf d xs) (entriesOf (depthAfter ch d) (entriesAfter ch d xs)) inside
+        (sym (rw e at there) ∙ ap opened (sym (entries-change ch d xs top l h (turn-room ch e) is-top)))

@@ -1,7 +1,8 @@
 -- The whole file, front to back (document 01, "The file"; "Who can bring a number about": the sender's part), and what a sound file
 -- holds.
-use Prim.Native.Nat.{ℕ, zero, suc, _+_, _*_, _/_}
-use mathlib.Core.Bool.{Bool, _&&_}
+use Prim.Native.Nat.{ℕ, zero, suc, _+_, _*_, _/_, _<_}
+use mathlib.Core.Path.{_≡_}
+use mathlib.Core.Bool.{Bool, true, _&&_}
 use mathlib.Core.List.{List, [], _∷_}
 use lib.ListN.{length}
 use lib.Dec.{leb, eqb}
@@ -31,6 +32,10 @@ use Rattle.program.specs.declared.refusal.Refusal.the-variants as refusa
 unfoldable pub instructionsAt : (locks variables : ℕ) → List ℕ → ℕ → ℕ → List Instruction
 instructionsAt locks variables s zero at = []
 instructionsAt locks variables s (suc n) at = instructionOf (decodeAt locks variables s at) ∷ instructionsAt locks variables s n (at + 4)
+
+-- they are valid
+abbrev pub AllValid : (locks variables : ℕ) → List ℕ → (n at : ℕ) → Type 0
+AllValid locks variables s n at = (i : ℕ) → i < n → Instruction.isValid (decodeAt locks variables s (at + 4 * i)) ≡ true
 
 -- the n variable records from an offset on
 unfoldable pub variablesAt : (locks threads : ℕ) → List ℕ → ℕ → ℕ → List Variable

@@ -8,10 +8,8 @@ use lib.ListN.{length}
 use Rattle.program.specs.Field.{byteAt, pairAt}
 use Rattle.program.specs.Variable.{recordAt}
 use Rattle.program.specs.Variable
-use Rattle.program.specs.Instruction.{decodeAt}
-use Rattle.program.specs.Instruction
 use Rattle.program.specs.Nesting.{firstBroken}
-use Rattle.program.specs.Layout.{instructionsAt}
+use Rattle.program.specs.Layout.{AllValid, instructionsAt}
 use Rattle.program.specs.declared.found.Found.the-variants.{Nowhere}
 use Rattle.program.specs.declared.instruction.Instruction.{Instruction}
 use Rattle.program.specs.declared.instruction.Instruction.the-variants.{Set, Copy, Add, Sub, Less, Read, Write, Take, Give, If, Else, While, Again, Atomic, End}
@@ -44,7 +42,7 @@ pub record SoundSection (s : List ℕ) (locks variables at : ℕ) : Type 0 where
   pub exact : pairAt s at ≡ 4 * countAt s at
   pub few : countAt s at ≤ 1024
   pub whole : at + 2 + 4 * countAt s at ≤ length s
-  pub valid : (i : ℕ) → i < countAt s at → Instruction.isValid (decodeAt locks variables s (at + 2 + 4 * i)) ≡ true
+  pub valid : AllValid locks variables s (countAt s at) (at + 2)
   pub nested : firstBroken 0 (instructionsAt locks variables s (countAt s at) (at + 2)) [] ≡ Nowhere
 
 -- n code sections from an offset to the file's end, with m instructions together

@@ -14,10 +14,10 @@ use Rattle.program.specs.declared.nesting.Change.the-variants.{Keep, Pus
 use Rattle.program.specs.declared.nesting.Turn.{Turn}
 use Rattle.program.specs.declared.nesting.Turn.the-variants.{Broken, Goes}
 
--- the first entries of an array, the last of them innermost and so first
+-- the entries 1 to d of an array, the last of them innermost and so first
 unfoldable pub entriesOf : ℕ → List Entry → List Entry
 entriesOf zero xs = []
-entriesOf (suc d) xs = getD xs d (Then 0) ∷ entriesOf d xs
+entriesOf (suc d) xs = getD xs (suc d) (Then 0) ∷ entriesOf d xs
 
 -- the innermost entry with those below it
 abbrev pub under : Top → List Entry → List Entry
@@ -38,8 +38,8 @@ turned (Goes ch) top below = opened (changed ch top below)
 -- the array and the depth after a change
 abbrev pub entriesAfter : Change → ℕ → List Entry → List Entry
 entriesAfter Keep depth xs = xs
-entriesAfter (Push e) depth xs = set xs depth e
-entriesAfter (Replace e) depth xs = set xs (depth - 1) e
+entriesAfter (Push e) depth xs = set xs (depth + 1) e
+entriesAfter (Replace e) depth xs = set xs depth e
 entriesAfter Pop depth xs = xs
 
 abbrev pub depthAfter : Change → ℕ → ℕ

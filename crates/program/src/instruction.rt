@@ -1,8 +1,8 @@
 // A decoded instruction (document 01, "The file": the table of op codes).
 use crate::found::Found;
 ghost use mathlib.Core.Path.{_≡_};
-ghost use mathlib.Core.Bool.{_&&_};
-ghost use Prim.Native.Nat.{_+_, _*_, _≤_};
+ghost use mathlib.Core.Bool.{true, _&&_};
+ghost use Prim.Native.Nat.{ℕ, _+_, _*_, _≤_};
 ghost use lib.ListN.{length};
 ghost use lib.Dec.{ltb};
 ghost use Rattle.program.specs.Choice.{choose, firstBad};
@@ -126,6 +126,38 @@ pub fn instruction_at(s: &[u8], at: usize, locks: usize, variables: usize) -> In
         return Instruction::End;
     };
     i
+}
+
+// What an op code and its fields say, where they are right: the op alone decides.
+pub fn valid_instruction(op: u8, a: u8, b: u8, c: u8) -> Instruction
+    ensures { λ r. ⌜ ((locks variables : ℕ) → Table.isValid (Table.decode locks variables op a b c) ≡ true → r ≡ instructionOf (Table.decode locks variables op a b c)) ⌝ }
+{
+    let n = (b as u16) * 256 + (c as u16);
+    match op {
+        0x01 => Instruction::Set(a, n),
+        0x02 => Instruction::Copy(a, b),
+        0x03 => Instruction::Add(a, b, c),
+        0x04 => Instruction::Sub(a, b, c),
+        0x05 => Instruction::Less(a, b, c),
+        0x10 => Instruction::Read(a, b),
+        0x11 => Instruction::Write(a, b),
+        0x20 => Instruction::Take(a),
+        0x21 => Instruction::Give(a),
+        0x30 => Instruction::If(a, n),
+        0x31 => Instruction::Else(n),
+        0x32 => Instruction::While(a, n),
+        0x33 => Instruction::Again(n),
+        0x34 => Instruction::Atomic(n),
+        _ => Instruction::End,
+    }
+}
+
+// The instruction of the four bytes at an offset, where they are valid.
+pub fn valid_instruction_at(s: &[u8], at: usize) -> Instruction
+    requires { ⌜ at + 4 ≤ length (now s) ⌝ }
+    ensures { λ r. ⌜ ((locks variables : ℕ) → Table.isValid (decodeAt locks variables (now (s .entry)) at) ≡ true → r ≡ instructionOf (decodeAt locks variables (now (s .entry)) at)) ⌝ }
+{
+    valid_instruction(s[at], s[at + 1], s[at + 2], s[at + 3])
 }
 
 // What nesting sees of an instruction.

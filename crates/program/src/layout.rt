@@ -68,7 +68,7 @@ fn code_section(s: &[u8], c: Cursor, locks: usize, variables: usize) -> Field
     if let Found::At(d) = bad {
         return Field::Refused(Refusal::Instruction(d));
     }
-    let broken = first_broken(s, start, n, locks, variables);
+    let broken = first_broken(s, start, n);
     match broken {
         Found::At(d) => Field::Refused(Refusal::Nesting(d)),
         Found::Nowhere => Field::Value(n, Cursor { at: start + 4 * n }),

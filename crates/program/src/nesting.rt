@@ -2,15 +2,15 @@
 use crate::found::Found;
 use crate::instruction::Form;
 use crate::instruction::form_of;
-use crate::instruction::instruction_at;
+use crate::instruction::valid_instruction_at;
 ghost use mathlib.Core.Path.{_≡_};
 ghost use mathlib.Core.Bool.{not};
 ghost use mathlib.Core.List.{List, []};
-ghost use Prim.Native.Nat.{_+_, _-_, _*_, _^_, _≤_, _<_};
-ghost use lib.ListN.{length};
+ghost use Prim.Native.Nat.{ℕ, _+_, _-_, _*_, _^_, _≤_, _<_};
+ghost use lib.ListN.{length, getD};
 ghost use Rattle.program.specs.Nesting.{unnamed, opening, passing, atElse, atAgain, atEnd, nest, firstBroken};
 ghost use Rattle.program.specs.Nesting as Nesting;
-ghost use Rattle.program.specs.Layout.{instructionsAt, offsetFrom};
+ghost use Rattle.program.specs.Layout.{AllValid, instructionsAt, offsetFrom};
 ghost use Rattle.program.specs.Stack.{under, Right, Room, entriesOf, entriesAfter, depthAfter};
 
 // The entries that openers open. Each names the place of its closer.
@@ -199,29 +199,32 @@ fn turn_at(p: usize, f: Form, top: Top, depth: usize) -> Turn
     }
 }
 
-// The open entries are the first `depth` elements of an array, the last of them innermost.
-fn innermost(entries: [Entry; 16], depth: usize) -> Top
-    requires { ⌜ depth ≤ 16 ⌝ }
-    ensures { λ r. ⌜ entriesOf depth entries ≡ under r (entriesOf (depth - 1) entries) ⌝ }
+// The open entries are elements 1 to `depth` of an array, the last of them innermost; e is the element at `depth`.
+fn innermost(e: Entry, depth: usize) -> Top
+    ensures { λ r. ⌜ ((entries : List Entry) → e ≡ getD entries depth (Entry.Then 0)
+        → entriesOf depth entries ≡ under r (entriesOf (depth - 1) entries)) ⌝ }
 {
     if depth == 0 {
         return Top::Empty;
     }
-    Top::Holds(entries[depth - 1])
+    Top::Holds(e)
 }
 
-// Where nesting is first broken, as an offset: that of the instruction, or the section's end if an entry is open there.
-pub fn first_broken(s: &[u8], start: usize, n: usize, locks: usize, variables: usize) -> Found
+// Where nesting of n valid instructions is first broken, as an offset: that of the instruction, or the section's end if an entry is
+// open there.
+pub fn first_broken(s: &[u8], start: usize, n: usize) -> Found
     requires { ⌜ start + 4 * n ≤ length (now s) ⌝ }
-    ensures { λ r. ⌜ r ≡ offsetFrom start (firstBroken 0 (instructionsAt locks variables (now (s .entry)) n start) []) ⌝ }
+    ensures { λ r. ⌜ ((locks variables : ℕ) → AllValid locks variables (now (s .entry)) n start
+        → r ≡ offsetFrom start (firstBroken 0 (instructionsAt locks variables (now (s .entry)) n start) [])) ⌝ }
 {
-    let mut entries = [Entry::Block(0); 16];
+    let mut entries = [Entry::Block(0); 17];
     let mut depth = 0;
     let mut p = 0;
     while p < n {
         let at = start + 4 * p;
-        let f = form_of(instruction_at(s, at, locks, variables));
-        let t = turn_at(p, f, innermost(entries, depth), depth);
+        let f = form_of(valid_instruction_at(s, at));
+        let e = entries[depth];
+        let t = turn_at(p, f, innermost(e, depth), depth);
         let Turn::Goes(ch) = t else {
             return Found::At(at);
         };
@@ -229,11 +232,11 @@ pub fn first_broken(s: &[u8], start: usize, n: usize, locks: usize, variables: u
         match ch {
             Change::Keep => {}
             Change::Push(e) => {
-                entries[depth] = e;
                 depth += 1;
+                entries[depth] = e;
             }
             Change::Replace(e) => {
-                entries[depth - 1] = e;
+                entries[depth] = e;
             }
             Change::Pop => {
                 depth -= 1;

@@ -59,7 +59,7 @@ scan-thread-requires : tie.Need-scan-thread-requires Inv-loop μ-loop
 scan-thread-requires c κs =
     let x = c .before .before .before .loop .inv in
     let section = next-section (c .before .before) in
-    rw (c .before .code-count .ensures) (c .before .before .before .before .before .before .before .pre .section, section .whole, omega (arith, x .small, x .count, x .few, section .few))
+    rw (c .before .code-count .ensures) (c .before .before .before .before .before .before .before .pre .section, section .whole, omega (arith, x .small, x .count, x .few, section .few), section .valid)
 
 enum-known-verdict : tie.Need-enum-known-verdict Inv-loop μ-loop
 enum-known-verdict c = search needs

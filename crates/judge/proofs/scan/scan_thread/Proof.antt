@@ -1,10 +1,11 @@
 -- `scan_thread` meets its contract. Assumes nothing.
 use borrow.Author.Needs.{needs}
 use native.Mathlib.Omega.{arith}
-use mathlib.Core.Path.{sym, _∙_, ap}
+use mathlib.Core.Path.{_≡_, sym, _∙_, ap}
 use Rattle.program.specs.Choice.{fine}
+use Rattle.program.specs.Instruction.{decodeAt, instructionOf}
 use Rattle.judge.specs.LockSet.{same}
-use Rattle.judge.proofs.ScanLoop.{Scanning, scanning-start, next-passed, ends-plain, next-pass, next-open, next-replace, next-close, ends-refuse, ends-full, ends-bare, ends-fine, ends-held, ends-refused}
+use Rattle.judge.proofs.ScanLoop.{Scanning, scanning-start, next-valid, next-passed, ends-plain, next-pass, next-open, next-replace, next-close, ends-refuse, ends-full, ends-bare, ends-fine, ends-held, ends-refused}
 use Rattle.judge.proofs.scan.scan_thread.Statement.{statement}
 use Rattle.judge.proofs.scan.scan_thread.Tie as tie
 
@@ -14,6 +15,15 @@ Inv-loop s l thread start count at report₀ frames₀ depth₀ locks₀ sofar�
 
 abbrev μ-loop : tie.MeasureT-loop
 μ-loop s l thread start count at report₀ frames₀ depth₀ locks₀ sofar₀ d₀ here₀ left₀ report frames depth locks sofar d here left = left
+
+-- the instruction that is read
+is-there : (u : tie.After-valid-instruction-at Inv-loop μ-loop)
+    → let args = u .before .before .before .before .before .before .before .args in
+    u .valid-instruction-at .result ≡ instructionOf (decodeAt (args .l .locks) (args .l .variables) (args .s .now) (u .before .before .loop .d))
+is-there u =
+    let args = u .before .before .before .before .before .before .before .args in
+    u .valid-instruction-at .ensures (args .l .locks) (args .l .variables)
+    (next-valid (args .s .now) _ _ _ _ _ _ _ _ _ _ _ _ _ _ (u .before .before .loop .inv) (u .before .loop-test .taken) (u .before .before .before .before .before .before .before .pre .3))
 
 whole-frame-requires : tie.Need-whole-frame-requires Inv-loop μ-loop
 whole-frame-requires c κs = search needs
@@ -36,8 +46,8 @@ add-here c = search needs
 sub-left : tie.Need-sub-left Inv-loop μ-loop
 sub-left c = search needs
 
-instruction-at-requires : tie.Need-instruction-at-requires Inv-loop μ-loop
-instruction-at-requires c κs = search needs
+valid-instruction-at-requires : tie.Need-valid-instruction-at-requires Inv-loop μ-loop
+valid-instruction-at-requires c κs = search needs
 
 form-of-requires : tie.Need-form-of-requires Inv-loop μ-loop
 form-of-requires c κs = search needs
@@ -58,7 +68,7 @@ returns : tie.Need-returns Inv-loop μ-loop
 returns c =
     let args = c .before .before .before .before .before .before .before .before .before .before .before .before .before .before .before .before .before .args in
     ends-refused (args .s .now) _ _ _ _ _ _ _
-    (ends-plain (args .s .now) _ _ _ _ _ _ _ _ _ _ _ _ _ _ (c .before .before .before .before .before .before .before .before .before .before .before .before .loop .inv) (c .before .before .before .before .before .before .before .before .before .before .before .loop-test .taken) (c .before .before .before .before .before .before .before .before .before .before .instruction-at .result) (c .before .before .before .before .before .before .before .before .before .before .instruction-at .ensures)
+    (ends-plain (args .s .now) _ _ _ _ _ _ _ _ _ _ _ _ _ _ (c .before .before .before .before .before .before .before .before .before .before .before .before .loop .inv) (c .before .before .before .before .before .before .before .before .before .before .before .loop-test .taken) (c .before .before .before .before .before .before .before .before .before .before .valid-instruction-at .result) (is-there (c .before .before .before .before .before .before .before .before .before .before))
     (sym (c .before .before .before .before .before .before .before .before .before .form-of .ensures) ∙ c .before .before .before .before .before .before .before .enum-told .given .1) _ (rw (c .before .verdict .given .1) at (c .before .before .before .offence .ensures)))
 
 enum-told-2 : tie.Need-enum-told-2 Inv-loop μ-loop
@@ -89,7 +99,7 @@ loop-again : tie.Need-loop-again Inv-loop μ-loop
 loop-again c =
     let args = c .before .before .before .before .before .before .before .before .before .before .before .before .before .before .before .before .before .before .before .before .before .before .before .before .before .before .args in
     rw (c .before .before .before .before .before .put .ensures, c .before .before .before .before .before .before .report-byte .ensures, c .before .before .before .before .before .before .before .before .then .ensures, c .move-locks .ensures)
-    (next-passed (args .s .now) _ _ _ _ _ _ _ _ _ _ _ _ _ _ (c .before .before .before .before .before .before .before .before .before .before .before .before .before .before .before .before .before .before .before .before .before .loop .inv) (c .before .before .before .before .before .before .before .before .before .before .before .before .before .before .before .before .before .before .before .before .loop-test .taken) (c .before .before .before .before .before .before .before .before .before .before .before .before .before .before .before .before .before .before .before .instruction-at .result) (c .before .before .before .before .before .before .before .before .before .before .before .before .before .before .before .before .before .before .before .instruction-at .ensures)
+    (next-passed (args .s .now) _ _ _ _ _ _ _ _ _ _ _ _ _ _ (c .before .before .before .before .before .before .before .before .before .before .before .before .before .before .before .before .before .before .before .before .before .loop .inv) (c .before .before .before .before .before .before .before .before .before .before .before .before .before .before .before .before .before .before .before .before .loop-test .taken) (c .before .before .before .before .before .before .before .before .before .before .before .before .before .before .before .before .before .before .before .valid-instruction-at .result) (is-there (c .before .before .before .before .before .before .before .before .before .before .before .before .before .before .before .before .before .before .before))
     (sym (c .before .before .before .before .before .before .before .before .before .before .before .before .before .before .before .before .before .before .form-of .ensures) ∙ c .before .before .before .before .before .before .before .before .before .before .before .before .before .before .before .before .enum-told .given .1) _ (c .before .before .before .before .before .before .before .before .before .atomicity-of .result) (rw (c .before .before .before .before .before .before .before .before .before .before .enum-told2 .given .1) at (c .before .before .before .before .before .before .before .before .before .before .before .before .offence .ensures)) (c .before .before .before .before .before .before .before .before .before .atomicity-of .ensures))
 
 loop-less-2 : tie.Need-loop-less-2 Inv-loop μ-loop
@@ -100,7 +110,7 @@ loop-again-2 c =
     let args = c .before .before .before .before .before .before .before .before .before .before .before .before .before .before .before .before .before .before .before .before .before .before .before .before .before .args in
     let locks = c .before .before .before .before .before .before .before .before .before .before .before .before .before .before .before .before .before .before .before .before .loop .locks in
     rw (c .before .before .before .before .put .ensures, c .before .before .before .before .before .report-byte .ensures, c .before .before .before .before .before .before .before .then .ensures)
-    (next-passed (args .s .now) _ _ _ _ _ _ _ _ _ _ _ _ _ _ (c .before .before .before .before .before .before .before .before .before .before .before .before .before .before .before .before .before .before .before .before .loop .inv) (c .before .before .before .before .before .before .before .before .before .before .before .before .before .before .before .before .before .before .before .loop-test .taken) (c .before .before .before .before .before .before .before .before .before .before .before .before .before .before .before .before .before .before .instruction-at .result) (c .before .before .before .before .before .before .before .before .before .before .before .before .before .before .before .before .before .before .instruction-at .ensures)
+    (next-passed (args .s .now) _ _ _ _ _ _ _ _ _ _ _ _ _ _ (c .before .before .before .before .before .before .before .before .before .before .before .before .before .before .before .before .before .before .before .before .loop .inv) (c .before .before .before .before .before .before .before .before .before .before .before .before .before .before .before .before .before .before .before .loop-test .taken) (c .before .before .before .before .before .before .before .before .before .before .before .before .before .before .before .before .before .before .valid-instruction-at .result) (is-there (c .before .before .before .before .before .before .before .before .before .before .before .before .before .before .before .before .before .before))
     (sym (c .before .before .before .before .before .before .before .before .before .before .before .before .before .before .before .before .before .form-of .ensures) ∙ c .before .before .before .before .before .before .before .before .before .before .before .before .before .before .before .enum-told .given .1) locks (c .before .before .before .before .before .before .before .before .atomicity-of .result)
     (ap fine (sym (c .before .moves .ensures (c .if1 .left) locks)) ∙ (rw (c .before .before .before .before .before .before .before .before .before .enum-told2 .given .1) at (c .before .before .before .before .before .before .before .before .before .before .before .offence .ensures))) (c .before .before .before .before .before .before .before .before .atomicity-of .ensures))
 
@@ -126,7 +136,7 @@ loop-again-3 : tie.Need-loop-again-3 Inv-loop μ-loop
 loop-again-3 c =
     let args = c .before .before .before .before .before .before .before .before .before .before .before .before .before .before .before .before .before .before .before .before .args in
     rw (c .before .before .put2 .ensures)
-    (next-pass (args .s .now) _ _ _ _ _ _ _ _ _ _ _ _ _ _ (c .before .before .before .before .before .before .before .before .before .before .before .before .before .before .before .loop .inv) (c .before .before .before .before .before .before .before .before .before .before .before .before .before .before .loop-test .taken) (c .before .before .before .before .before .before .before .before .before .before .before .before .before .instruction-at .result) (c .before .before .before .before .before .before .before .before .before .before .before .before .before .instruction-at .ensures)
+    (next-pass (args .s .now) _ _ _ _ _ _ _ _ _ _ _ _ _ _ (c .before .before .before .before .before .before .before .before .before .before .before .before .before .before .before .loop .inv) (c .before .before .before .before .before .before .before .before .before .before .before .before .before .before .loop-test .taken) (c .before .before .before .before .before .before .before .before .before .before .before .before .before .valid-instruction-at .result) (is-there (c .before .before .before .before .before .before .before .before .before .before .before .before .before))
     _ (c .before .before .before .before .before .before .before .before .before .take-turn .result) (c .before .before .before .before .before .before .before .before .before .take-turn .ensures) _ (c .before .before .before .before .before .step .given .1))
 
 enum-told-3 : tie.Need-enum-told-3 Inv-loop μ-loop
@@ -139,7 +149,7 @@ returns-2 : tie.Need-returns-2 Inv-loop μ-loop
 returns-2 c =
     let args = c .before .before .before .before .before .before .before .before .before .before .before .before .before .before .before .before .args in
     ends-refused (args .s .now) _ _ _ _ _ _ _
-    (ends-full (args .s .now) _ _ _ _ _ _ _ _ _ _ _ _ _ _ (c .before .before .before .before .before .before .before .before .before .before .before .loop .inv) (c .before .before .before .before .before .before .before .before .before .before .loop-test .taken) (c .before .before .before .before .before .before .before .before .before .instruction-at .result) (c .before .before .before .before .before .before .before .before .before .instruction-at .ensures)
+    (ends-full (args .s .now) _ _ _ _ _ _ _ _ _ _ _ _ _ _ (c .before .before .before .before .before .before .before .before .before .before .before .loop .inv) (c .before .before .before .before .before .before .before .before .before .before .loop-test .taken) (c .before .before .before .before .before .before .before .before .before .valid-instruction-at .result) (is-there (c .before .before .before .before .before .before .before .before .before))
     _ (c .before .before .before .before .before .take-turn .result) (c .before .before .before .before .before .take-turn .ensures) (c .before .enum-told3 .given .1) (c .if2 .taken))
 
 add-depth : tie.Need-add-depth Inv-loop μ-loop
@@ -161,7 +171,7 @@ loop-again-4 : tie.Need-loop-again-4 Inv-loop μ-loop
 loop-again-4 c =
     let args = c .before .before .before .before .before .before .before .before .before .before .before .before .before .before .before .before .before .before .before .before .args in
     rw (c .before .before .put3 .ensures)
-    (next-open (args .s .now) _ _ _ _ _ _ _ _ _ _ _ _ _ _ (c .before .before .before .before .before .before .before .before .before .before .before .before .before .before .before .loop .inv) (c .before .before .before .before .before .before .before .before .before .before .before .before .before .before .loop-test .taken) (c .before .before .before .before .before .before .before .before .before .before .before .before .before .instruction-at .result) (c .before .before .before .before .before .before .before .before .before .before .before .before .before .instruction-at .ensures)
+    (next-open (args .s .now) _ _ _ _ _ _ _ _ _ _ _ _ _ _ (c .before .before .before .before .before .before .before .before .before .before .before .before .before .before .before .loop .inv) (c .before .before .before .before .before .before .before .before .before .before .before .before .before .before .loop-test .taken) (c .before .before .before .before .before .before .before .before .before .before .before .before .before .valid-instruction-at .result) (is-there (c .before .before .before .before .before .before .before .before .before .before .before .before .before))
     _ (c .before .before .before .before .before .before .before .before .before .take-turn .result) (c .before .before .before .before .before .before .before .before .before .take-turn .ensures) (c .before .before .before .before .before .enum-told3 .given .1) (c .before .before .before .before .if2 .left))
 
 enum-told-4 : tie.Need-enum-told-4 Inv-loop μ-loop
@@ -183,7 +193,7 @@ loop-again-5 : tie.Need-loop-again-5 Inv-loop μ-loop
 loop-again-5 c =
     let args = c .before .before .before .before .before .before .before .before .before .before .before .before .before .before .before .before .before .before .before .args in
     rw (c .before .before .put4 .ensures)
-    (next-replace (args .s .now) _ _ _ _ _ _ _ _ _ _ _ _ _ _ (c .before .before .before .before .before .before .before .before .before .before .before .before .before .before .loop .inv) (c .before .before .before .before .before .before .before .before .before .before .before .before .before .loop-test .taken) (c .before .before .before .before .before .before .before .before .before .before .before .before .instruction-at .result) (c .before .before .before .before .before .before .before .before .before .before .before .before .instruction-at .ensures)
+    (next-replace (args .s .now) _ _ _ _ _ _ _ _ _ _ _ _ _ _ (c .before .before .before .before .before .before .before .before .before .before .before .before .before .before .loop .inv) (c .before .before .before .before .before .before .before .before .before .before .before .before .before .loop-test .taken) (c .before .before .before .before .before .before .before .before .before .before .before .before .valid-instruction-at .result) (is-there (c .before .before .before .before .before .before .before .before .before .before .before .before))
     _ (c .before .before .before .before .before .before .before .before .take-turn .result) (c .before .before .before .before .before .before .before .before .take-turn .ensures) (c .before .before .before .before .enum-told4 .given .1))
 
 enum-known-step-2 : tie.Need-enum-known-step-2 Inv-loop μ-loop
@@ -196,7 +206,7 @@ returns-3 : tie.Need-returns-3 Inv-loop μ-loop
 returns-3 c =
     let args = c .before .before .before .before .before .before .before .before .before .before .before .before .before .before .before .before .before .args in
     ends-refused (args .s .now) _ _ _ _ _ _ _
-    (ends-bare (args .s .now) _ _ _ _ _ _ _ _ _ _ _ _ _ _ (c .before .before .before .before .before .before .before .before .before .before .before .before .loop .inv) (c .before .before .before .before .before .before .before .before .before .before .before .loop-test .taken) (c .before .before .before .before .before .before .before .before .before .before .instruction-at .result) (c .before .before .before .before .before .before .before .before .before .before .instruction-at .ensures)
+    (ends-bare (args .s .now) _ _ _ _ _ _ _ _ _ _ _ _ _ _ (c .before .before .before .before .before .before .before .before .before .before .before .before .loop .inv) (c .before .before .before .before .before .before .before .before .before .before .before .loop-test .taken) (c .before .before .before .before .before .before .before .before .before .before .valid-instruction-at .result) (is-there (c .before .before .before .before .before .before .before .before .before .before))
     _ (c .before .before .before .before .before .before .take-turn .result) (c .before .before .before .before .before .before .take-turn .ensures) _ _ (c .before .before .step2 .given .1) (c .if3 .taken))
 
 sub-depth : tie.Need-sub-depth Inv-loop μ-loop
@@ -215,7 +225,7 @@ loop-again-6 : tie.Need-loop-again-6 Inv-loop μ-loop
 loop-again-6 c =
     let args = c .before .before .before .before .before .before .before .before .before .before .before .before .before .before .before .before .before .before .before .before .before .before .before .before .before .args in
     rw (c .before .before .put6 .ensures, c .before .before .before .before .before .before .put5 .ensures)
-    (next-close (args .s .now) _ _ _ _ _ _ _ _ _ _ _ _ _ _ (c .before .before .before .before .before .before .before .before .before .before .before .before .before .before .before .before .before .before .before .before .loop .inv) (c .before .before .before .before .before .before .before .before .before .before .before .before .before .before .before .before .before .before .before .loop-test .taken) (c .before .before .before .before .before .before .before .before .before .before .before .before .before .before .before .before .before .before .instruction-at .result) (c .before .before .before .before .before .before .before .before .before .before .before .before .before .before .before .before .before .before .instruction-at .ensures)
+    (next-close (args .s .now) _ _ _ _ _ _ _ _ _ _ _ _ _ _ (c .before .before .before .before .before .before .before .before .before .before .before .before .before .before .before .before .before .before .before .before .loop .inv) (c .before .before .before .before .before .before .before .before .before .before .before .before .before .before .before .before .before .before .before .loop-test .taken) (c .before .before .before .before .before .before .before .before .before .before .before .before .before .before .before .before .before .before .valid-instruction-at .result) (is-there (c .before .before .before .before .before .before .before .before .before .before .before .before .before .before .before .before .before .before))
     _ (c .before .before .before .before .before .before .before .before .before .before .before .before .before .before .take-turn .result) (c .before .before .before .before .before .before .before .before .before .before .before .before .before .before .take-turn .ensures) _ _ (c .before .before .before .before .before .before .before .before .before .before .step2 .given .1) (omega (arith, c .before .before .before .before .before .before .before .before .if3 .left)))
 
 enum-known-step-3 : tie.Need-enum-known-step-3 Inv-loop μ-loop
@@ -228,7 +238,7 @@ returns-4 : tie.Need-returns-4 Inv-loop μ-loop
 returns-4 c =
     let args = c .before .before .before .before .before .before .before .before .before .before .before .before .before .before .before .before .args in
     ends-refused (args .s .now) _ _ _ _ _ _ _
-    (ends-refuse (args .s .now) _ _ _ _ _ _ _ _ _ _ _ _ _ _ (c .before .before .before .before .before .before .before .before .before .before .before .loop .inv) (c .before .before .before .before .before .before .before .before .before .before .loop-test .taken) (c .before .before .before .before .before .before .before .before .before .instruction-at .result) (c .before .before .before .before .before .before .before .before .before .instruction-at .ensures)
+    (ends-refuse (args .s .now) _ _ _ _ _ _ _ _ _ _ _ _ _ _ (c .before .before .before .before .before .before .before .before .before .before .before .loop .inv) (c .before .before .before .before .before .before .before .before .before .before .loop-test .taken) (c .before .before .before .before .before .before .before .before .before .valid-instruction-at .result) (is-there (c .before .before .before .before .before .before .before .before .before))
     _ (c .before .before .before .before .before .take-turn .result) (c .before .before .before .before .before .take-turn .ensures) _ (c .before .step3 .given .1))
 
 empty-requires-2 : tie.Need-empty-requires-2 Inv-loop μ-loop
@@ -271,7 +281,7 @@ scan-thread-spec =
     add-d
     add-here
     sub-left
-    instruction-at-requires
+    valid-instruction-at-requires
     form-of-requires
     enum-told
     offence-requires

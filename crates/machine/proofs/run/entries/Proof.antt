@@ -1,6 +1,6 @@
 -- `entries` meets its contract. The loop's invariant: running the entries that are left from what is kept is running the whole list.
 -- Assumes nothing.
-use Prim.Native.Nat.{ℕ, _+_, _-_, _≤_, _<_}
+use Prim.Native.Nat.{ℕ, _+_, _*_, _-_, _≤_, _<_}
 use mathlib.Core.Path.{_≡_, refl, ap, _∙_, sym}
 use mathlib.Core.List.{List, _∷_}
 use native.Mathlib.Numerals.{add-one}
@@ -8,77 +8,107 @@ use native.Mathlib.Omega.{arith}
 use borrow.Author.Needs.{needs}
 use lib.ListN.{length, getD, drop, drop-of-length-le}
 use lib.Seq.{drop-cons}
+use Rattle.program.specs.Instruction.{decodeAt, instructionOf}
 use Rattle.program.specs.Layout.{programOf}
-use Rattle.machine.specs.State.{fresh}
 use Rattle.program.specs.Sound.{FieldsGood}
+use Rattle.program.specs.declared.layout.Layout.{Layout}
+use Rattle.machine.specs.State.{fresh}
 use Rattle.machine.specs.Run.{runFrom}
-use Rattle.machine.specs.Kept.{stateIn, fromHere, Located, Entries, nobody, Kept}
+use Rattle.machine.specs.Kept.{stateIn, fromHere, Located, Prepared, Entries, nobody, Kept}
 use Rattle.machine.proofs.Kept.{kept-start, fields, entry-idle, entry-waiting, kept-waiting, entry-moved, kept-moved}
 use Rattle.machine.proofs.run.entries.Statement.{statement}
 use Rattle.machine.proofs.run.entries.Tie as tie
 
+-- The loop reads nothing of the layout, so the invariant holds for each layout that the file was prepared by.
 abbrev Inv-loop : tie.InvT-loop
-Inv-loop s l list variables₀ locks₀ starts sizes threads₀ moved₀ waiting₀ idle₀ i₀ variables locks threads moved waiting idle i =
+Inv-loop s list variables₀ locks₀ starts sizes threads₀ moved₀ waiting₀ idle₀ i₀ variables locks threads moved waiting idle i =
     (i ≤ length list)
     × (moved + waiting + idle ≡ i)
-    × Kept l sizes variables locks threads
+    × ((l : Layout)
+    → Prepared s l starts sizes
+    → Entries l list
+    → Kept l sizes variables locks threads
     × (runFrom (programOf s l) (fromHere l variables₀ locks₀) list
-    ≡ runFrom (programOf s l) (record { counts = record { moved = moved; waiting = waiting; idle = idle }; state = stateIn l variables locks threads }) (drop i list))
+    ≡ runFrom (programOf s l) (record { counts = record { moved = moved; waiting = waiting; idle = idle }; state = stateIn l variables locks threads }) (drop i list)))
 
 abbrev μ-loop : tie.MeasureT-loop
-μ-loop s l list variables₀ locks₀ starts sizes threads₀ moved₀ waiting₀ idle₀ i₀ variables locks threads moved waiting idle i =
-    length list - i
+μ-loop s list variables₀ locks₀ starts sizes threads₀ moved₀ waiting₀ idle₀ i₀ variables locks threads moved waiting idle i = length list - i
 
--- the entry that is next
-drop-next : (xs : List ℕ) (i : ℕ) → i < length xs → drop i xs ≡ getD xs i 0 ∷ drop (i + 1) xs
-drop-next xs i h = rw (add-one, drop-cons xs i 0)
+-- where an entry is read
+module _ (c : tie.After-shared-slice-known3 Inv-loop μ-loop) where
+  abbrev start : tie.Start Inv-loop μ-loop
+  start = c .before .before .before .before .before
 
--- it names a thread
-thread-number : (c : tie.After-shared-slice-known3 Inv-loop μ-loop)
-    → getD (c .before .before .before .before .before .args .list .now) (c .before .before .loop .i) 0 < c .before .before .before .before .before .args .l .threads
-unfolding Entries
-thread-number c = c .before .before .before .before .before .pre .1 (c .before .before .loop .i) (c .before .loop-test .taken)
+  -- the thread that it names, and where that stands
+  abbrev thread : ℕ
+  thread = getD (start .args .list .now) (c .before .before .loop .i) 0
 
--- of which there are at most eight
-small : (c : tie.After-shared-slice-known3 Inv-loop μ-loop)
-    → getD (c .before .before .before .before .before .args .list .now) (c .before .before .loop .i) 0 < 8
-small c = omega (arith, thread-number c, c .before .before .before .before .before .pre .0 .threads)
+  abbrev place : ℕ
+  place = getD (c .before .before .loop .threads) thread nobody .place
 
--- its code
-located : (c : tie.After-shared-slice-known3 Inv-loop μ-loop)
-    → let a = c .before .before .before .before .before .args in
-    let t = getD (a .list .now) (c .before .before .loop .i) 0 in
-    Located (a .s .now) (a .l) (getD (a .t4) t 0) (getD (a .t5) t 0) t
-located c = c .before .before .before .before .before .pre .0 .sections _ (thread-number c)
+  module _ (l : Layout) (p : Prepared (start .args .s .now) l (start .args .t4) (start .args .t5)) (q : Entries l (start .args .list .now)) where
+    named : thread < l .threads
+    unfolding Entries
+    named = q (c .before .before .loop .i) (c .before .loop-test .taken)
 
--- its place is within its code
-placed : (c : tie.After-shared-slice-known3 Inv-loop μ-loop)
-    → let a = c .before .before .before .before .before .args in
-    let t = getD (a .list .now) (c .before .before .loop .i) 0 in
-    getD (c .before .before .loop .threads) t nobody .place ≤ getD (a .t5) t 0
-placed c = c .before .before .loop .inv .2 .places _ (thread-number c)
+    -- its code
+    located : Located (start .args .s .now) l (getD (start .args .t4) thread 0) (getD (start .args .t5) thread 0) thread
+    located = p .sections thread named
 
--- where it is not at its code's end, it is at an instruction
-at-instruction : (c : tie.Else1 Inv-loop μ-loop)
-    → let a = c .before .before .before .before .before .before .before .args in
-    let t = getD (a .list .now) (c .before .before .before .before .loop .i) 0 in
-    getD (c .before .before .before .before .loop .threads) t nobody .place < getD (a .t5) t 0
+    kept : Kept l (start .args .t5) (c .before .before .loop .variables) (c .before .before .loop .locks) (c .before .before .loop .threads)
+    kept = c .before .before .loop .inv .2 l p q .0
+
+    -- the entries that are left, this one first
+    next : runFrom (programOf (start .args .s .now) l) (fromHere l (start .args .variables .now) (start .args .locks .now)) (start .args .list .now)
+        ≡ runFrom (programOf (start .args .s .now) l) (record {
+          counts = record { moved = c .before .before .loop .moved; waiting = c .before .before .loop .waiting; idle = c .before .before .loop .idle };
+          state = stateIn l (c .before .before .loop .variables) (c .before .before .loop .locks) (c .before .before .loop .threads);
+        }) (thread ∷ drop (c .before .before .loop .i + 1) (start .args .list .now))
+    next =
+        c .before .before .loop .inv .2 l p q .1
+        ∙ ap (runFrom (programOf (start .args .s .now) l) _)
+        (rw (add-one, drop-cons (start .args .list .now) (c .before .before .loop .i) 0 (c .before .loop-test .taken)))
+
+  -- by the layout given
+  code-here : Located (start .args .s .now) (start .args .l) (getD (start .args .t4) thread 0) (getD (start .args .t5) thread 0) thread
+  code-here = located (start .args .l) (start .pre .0) (start .pre .1)
+
+  small : thread < 8
+  small = omega (arith, named (start .args .l) (start .pre .0) (start .pre .1), start .pre .0 .threads)
+
+  placed : place ≤ getD (start .args .t5) thread 0
+  placed = kept (start .args .l) (start .pre .0) (start .pre .1) .places thread (named (start .args .l) (start .pre .0) (start .pre .1))
+
+-- where the thread is not at its code's end, it is at an instruction
+at-instruction : (c : tie.Else1 Inv-loop μ-loop) → place (c .before .before) < getD (start (c .before .before) .args .t5) (thread (c .before .before)) 0
 at-instruction c = omega (arith, placed (c .before .before), c .if1 .left)
 
--- whose fields are good
-named : (c : tie.After-instruction-at Inv-loop μ-loop) → FieldsGood 16 64 (c .instruction-at .result)
-named c =
-    let k = c .before .before .before in
-    let b = k .before .before .before .before .before in
-    let o = k .before .before .loop in
-    fields (b .args .s .now) (b .args .l) (b .args .t4) (b .args .t5) (b .pre .0) (o .variables) (o .locks) (o .threads) (o .inv .2)
-    (getD (b .args .list .now) (o .i) 0) (thread-number k) (c .instruction-at .result) (c .before .if1 .left) (c .instruction-at .ensures)
+module _ (c : tie.After-valid-instruction-at Inv-loop μ-loop) where
+  abbrev entry : tie.After-shared-slice-known3 Inv-loop μ-loop
+  entry = c .before .before .before
+
+  -- which is valid, so that it is the one read
+  read : (l : Layout) → Prepared (start entry .args .s .now) l (start entry .args .t4) (start entry .args .t5) → Entries l (start entry .args .list .now)
+      → c .valid-instruction-at .result
+      ≡ instructionOf (decodeAt (l .locks) (l .variables) (start entry .args .s .now) (getD (start entry .args .t4) (thread entry) 0 + 4 * place entry))
+  read l p q = c .valid-instruction-at .ensures (l .locks) (l .variables) (located entry l p q .valid (place entry) (at-instruction (c .before)))
+
+  -- and its fields are good
+  good : FieldsGood 16 64 (c .valid-instruction-at .result)
+  good =
+      let b = start entry in
+      let o = entry .before .before .loop in
+      let l = b .args .l in
+      let p = b .pre .0 in
+      let q = b .pre .1 in
+      fields (b .args .s .now) l (b .args .t4) (b .args .t5) p (o .variables) (o .locks) (o .threads) (kept entry l p q) (thread entry) (named entry l p q)
+      (c .valid-instruction-at .result) (c .before .if1 .left) (read l p q)
 
 loop-holds : tie.Need-loop-holds Inv-loop μ-loop
 unfolding fresh
 loop-holds c =
     let a = c .before .before .args in
-    (search needs, refl, kept-start (a .l) (a .t5) (a .variables .now) (a .locks .now) (c .before .before .pre .2) (c .before .before .pre .3), refl)
+    (search needs, refl, λ l p q. (kept-start l (a .t5) (a .variables .now) (a .locks .now) (c .before .before .pre .2) (c .before .before .pre .3), refl))
 
 shared-slice-read-t : tie.Need-shared-slice-read-t Inv-loop μ-loop
 shared-slice-read-t c = search needs
@@ -110,33 +140,35 @@ loop-less c = search needs
 loop-again : tie.Need-loop-again Inv-loop μ-loop
 loop-again c =
     let k = c .before .before in
-    let b = k .before .before .before .before .before in
+    let b = start k in
     let o = k .before .before .loop in (
       omega arith,
       omega arith,
-      o .inv .2,
-      o .inv .3 ∙ ap (runFrom (programOf (b .args .s .now) (b .args .l)) _) (drop-next (b .args .list .now) (o .i) (k .before .loop-test .taken))
-          ∙ entry-idle (b .args .s .now) (b .args .l) (b .args .t4) (b .args .t5) (b .pre .0) (o .variables) (o .locks) (o .threads) (o .inv .2)
-          (getD (b .args .list .now) (o .i) 0) (thread-number k) (o .moved) (o .waiting) (o .idle) (drop (o .i + 1) (b .args .list .now)) (c .if1 .taken),
+      λ l p q. (
+        kept k l p q,
+        next k l p q
+            ∙ entry-idle (b .args .s .now) l (b .args .t4) (b .args .t5) p (o .variables) (o .locks) (o .threads) (kept k l p q) (thread k) (named k l p q)
+            (o .moved) (o .waiting) (o .idle) (drop (o .i + 1) (b .args .list .now)) (c .if1 .taken),
+      ),
     )
 
-mul-instruction-at : tie.Need-mul-instruction-at Inv-loop μ-loop
-mul-instruction-at c = omega (arith, small (c .before .before))
+mul-valid-instruction-at : tie.Need-mul-valid-instruction-at Inv-loop μ-loop
+mul-valid-instruction-at c = omega (arith, small (c .before .before))
 
-array-read-instruction-at : tie.Need-array-read-instruction-at Inv-loop μ-loop
-array-read-instruction-at c = small (c .before .before)
+array-read-valid-instruction-at : tie.Need-array-read-valid-instruction-at Inv-loop μ-loop
+array-read-valid-instruction-at c = small (c .before .before)
 
-mul-instruction-at-2 : tie.Need-mul-instruction-at-2 Inv-loop μ-loop
-mul-instruction-at-2 c = omega (arith, placed (c .before .before), located (c .before .before) .short)
+mul-valid-instruction-at-2 : tie.Need-mul-valid-instruction-at-2 Inv-loop μ-loop
+mul-valid-instruction-at-2 c = omega (arith, placed (c .before .before), code-here (c .before .before) .short)
 
-add-instruction-at : tie.Need-add-instruction-at Inv-loop μ-loop
-add-instruction-at c = omega (arith, placed (c .before .before), located (c .before .before) .inside, c .before .before .before .before .before .before .before .good .0 .0)
+add-valid-instruction-at : tie.Need-add-valid-instruction-at Inv-loop μ-loop
+add-valid-instruction-at c = omega (arith, placed (c .before .before), code-here (c .before .before) .inside, c .before .before .before .before .before .before .before .good .0 .0)
 
-instruction-at-requires : tie.Need-instruction-at-requires Inv-loop μ-loop
-instruction-at-requires c κs = omega (arith, at-instruction c, located (c .before .before) .inside)
+valid-instruction-at-requires : tie.Need-valid-instruction-at-requires Inv-loop μ-loop
+valid-instruction-at-requires c κs = omega (arith, at-instruction c, code-here (c .before .before) .inside)
 
 access-requires : tie.Need-access-requires Inv-loop μ-loop
-access-requires c κs = (named (c .before .before .before), small (c .before .before .before .before .before .before))
+access-requires c κs = (good (c .before .before .before), small (c .before .before .before .before .before .before))
 
 enum-told : tie.Need-enum-told Inv-loop μ-loop
 enum-told c = search needs
@@ -149,27 +181,33 @@ loop-less-2 c = search needs
 
 loop-again-2 : tie.Need-loop-again-2 Inv-loop μ-loop
 loop-again-2 c =
-    let k = c .before .before .before .before .before .before .before .before .before in
-    let q = c .before .before .before .before .before .before in
-    let b = k .before .before .before .before .before in
+    let f = c .before .before .before .before .before .before in
+    let k = entry f in
+    let b = start k in
     let o = k .before .before .loop in
     let u = c .before .before .access in
-    let t = getD (b .args .list .now) (o .i) 0 in
-    let i = q .instruction-at .result in
-    let next = o .inv .3 ∙ ap (runFrom (programOf (b .args .s .now) (b .args .l)) _) (drop-next (b .args .list .now) (o .i) (k .before .loop-test .taken)) in
+    let i = f .valid-instruction-at .result in
     let e = sym (u .ensures .0) ∙ c .enum-told .given .1 in
-    let r = getD (o .threads) t nobody .registers in (
+    let r = getD (o .threads) (thread k) nobody .registers in (
       omega arith,
       omega arith,
-      rw (u .ensures .1 .0, u .ensures .1 .1) (kept-waiting (b .args .s .now) (b .args .l) (b .args .t4) (b .args .t5) (b .pre .0) (o .variables) (o .locks) (o .threads) (o .inv .2) t (thread-number k) i (q .before .if1 .left) (q .instruction-at .ensures) r e),
-      rw (u .ensures .1 .0, u .ensures .1 .1) (next ∙ entry-waiting (b .args .s .now) (b .args .l) (b .args .t4) (b .args .t5) (b .pre .0) (o .variables) (o .locks) (o .threads) (o .inv .2) t (thread-number k) i (q .before .if1 .left) (q .instruction-at .ensures) (o .moved) (o .waiting) (o .idle) (drop (o .i + 1) (b .args .list .now)) r e),
+      λ l p q. (
+        rw (u .ensures .1 .0, u .ensures .1 .1)
+            (kept-waiting (b .args .s .now) l (b .args .t4) (b .args .t5) p (o .variables) (o .locks) (o .threads) (kept k l p q) (thread k) (named k l p q)
+            i (f .before .if1 .left) (read f l p q) r e),
+        rw (u .ensures .1 .0, u .ensures .1 .1)
+            (next k l p q
+            ∙ entry-waiting (b .args .s .now) l (b .args .t4) (b .args .t5) p (o .variables) (o .locks) (o .threads) (kept k l p q) (thread k) (named k l p q)
+            i (f .before .if1 .left) (read f l p q) (o .moved) (o .waiting) (o .idle) (drop (o .i + 1) (b .args .list .now)) r e),
+      ),
     )
 
 enum-known-x : tie.Need-enum-known-x Inv-loop μ-loop
 enum-known-x c = search needs
 
 thread-after-requires : tie.Need-thread-after-requires Inv-loop μ-loop
-thread-after-requires c κs = (named (c .before .before .before .before .before .before .before), omega (arith, placed (c .before .before .before .before .before .before .before .before .before .before), located (c .before .before .before .before .before .before .before .before .before .before) .short))
+thread-after-requires c κs =
+    let f = c .before .before .before .before .before .before .before in (good f, omega (arith, placed (entry f), code-here (entry f) .short))
 
 mul-threads : tie.Need-mul-threads Inv-loop μ-loop
 mul-threads c = omega (arith, small (c .before .before .before .before .before .before .before .before .before .before .before))
@@ -185,28 +223,34 @@ loop-less-3 c = search needs
 
 loop-again-3 : tie.Need-loop-again-3 Inv-loop μ-loop
 loop-again-3 c =
-    let k = c .before .before .before .before .before .before .before .before .before .before .before in
-    let q = c .before .before .before .before .before .before .before .before in
-    let b = k .before .before .before .before .before in
+    let f = c .before .before .before .before .before .before .before .before in
+    let k = entry f in
+    let b = start k in
     let o = k .before .before .loop in
     let u = c .before .before .before .before .access in
-    let t = getD (b .args .list .now) (o .i) 0 in
-    let i = q .instruction-at .result in
-    let next = o .inv .3 ∙ ap (runFrom (programOf (b .args .s .now) (b .args .l)) _) (drop-next (b .args .list .now) (o .i) (k .before .loop-test .taken)) in
+    let i = f .valid-instruction-at .result in
     let x = c .before .before .x .given .0 .0 in
     let e = sym (u .ensures .0) ∙ c .before .before .x .given .1 in (
       omega arith,
       omega arith,
-      rw (c .thread-after .ensures, u .ensures .1 .0, u .ensures .1 .1) (kept-moved (b .args .s .now) (b .args .l) (b .args .t4) (b .args .t5) (b .pre .0) (o .variables) (o .locks) (o .threads) (o .inv .2) t (thread-number k) i (q .before .if1 .left) (q .instruction-at .ensures) x e),
-      rw (c .thread-after .ensures, u .ensures .1 .0, u .ensures .1 .1) (next ∙ entry-moved (b .args .s .now) (b .args .l) (b .args .t4) (b .args .t5) (b .pre .0) (o .variables) (o .locks) (o .threads) (o .inv .2) t (thread-number k) i (q .before .if1 .left) (q .instruction-at .ensures) (o .moved) (o .waiting) (o .idle) (drop (o .i + 1) (b .args .list .now)) x e),
+      λ l p q. (
+        rw (c .thread-after .ensures, u .ensures .1 .0, u .ensures .1 .1)
+            (kept-moved (b .args .s .now) l (b .args .t4) (b .args .t5) p (o .variables) (o .locks) (o .threads) (kept k l p q) (thread k) (named k l p q)
+            i (f .before .if1 .left) (read f l p q) x e),
+        rw (c .thread-after .ensures, u .ensures .1 .0, u .ensures .1 .1)
+            (next k l p q
+            ∙ entry-moved (b .args .s .now) l (b .args .t4) (b .args .t5) p (o .variables) (o .locks) (o .threads) (kept k l p q) (thread k) (named k l p q)
+            i (f .before .if1 .left) (read f l p q) (o .moved) (o .waiting) (o .idle) (drop (o .i + 1) (b .args .list .now)) x e),
+      ),
     )
 
 returns : tie.Need-returns Inv-loop μ-loop
 unfolding runFrom
 returns c =
-    let o = c .before .loop in
-    let a = c .before .before .before .before .args in
-    (o .inv .3 ∙ ap (runFrom (programOf (a .s .now) (a .l)) _) (drop-of-length-le (a .list .now) (c .loop-test .left)), o .inv .2)
+    let b = c .before .before .before .before in
+    let a = b .args in
+    let h = c .before .loop .inv .2 (a .l) (b .pre .0) (b .pre .1) in
+    (h .1 ∙ ap (runFrom (programOf (a .s .now) (a .l)) _) (drop-of-length-le (a .list .now) (c .loop-test .left)), h .0)
 
 pub entries-spec : {M : Type 1} → statement M
 entries-spec =
@@ -225,11 +269,11 @@ entries-spec =
     add-idle
     loop-less
     loop-again
-    mul-instruction-at
-    array-read-instruction-at
-    mul-instruction-at-2
-    add-instruction-at
-    instruction-at-requires
+    mul-valid-instruction-at
+    array-read-valid-instruction-at
+    mul-valid-instruction-at-2
+    add-valid-instruction-at
+    valid-instruction-at-requires
     access-requires
     enum-told
     add-waiting

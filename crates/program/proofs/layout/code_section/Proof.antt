@@ -1,12 +1,16 @@
 -- `code_section` meets its contract. Assumes nothing.
 use Prim.Native.Nat.{_+_, _*_, _≤_}
-use mathlib.Core.Path.{sym, ap, _∙_}
+use mathlib.Core.Path.{_≡_, sym, ap, _∙_}
+use mathlib.Core.List.{[]}
 use lib.ListN.{length}
 use native.Mathlib.Omega.{arith}
 use borrow.Author.Needs.{needs}
-use Rattle.program.specs.Layout.{codeSection}
+use Rattle.program.specs.Instruction.{isValid, decodeAt}
+use Rattle.program.specs.Layout.{codeSection, instructionsAt, offsetFrom}
+use Rattle.program.specs.Nesting.{firstBroken}
 use Rattle.program.specs.declared.cursor.Cursor.{Cursor}
 use Rattle.program.proofs.Answers.{section-value}
+use Rattle.program.proofs.Search.{bad-none}
 use Rattle.program.proofs.layout.code_section.Statement.{statement}
 use Rattle.program.proofs.layout.code_section.Tie as tie
 
@@ -46,6 +50,18 @@ enum-told-2 c = search needs
 first-broken-requires : tie.Need-first-broken-requires
 first-broken-requires c κs = fits (c .before .before .before .before)
 
+-- where nesting is looked at each instruction is valid
+broken-there : (u : tie.After-first-broken) → u .first-broken .result
+    ≡ (let v = u .before .before .before .before .before in
+    let a = v .before .before .before .before .args in
+    offsetFrom (v .f .given .0 .1 .0 .at) (firstBroken 0 (instructionsAt (a .locks) (a .variables) (a .s .now) (v .f .given .0 .0) (v .f .given .0 .1 .0 .at)) []))
+broken-there u =
+    let v = u .before .before .before .before .before in
+    let a = v .before .before .before .before .args in
+    u .first-broken .ensures (a .locks) (a .variables)
+    (bad-none (λ p. isValid (decodeAt (a .locks) (a .variables) (a .s .now) p)) 4 (v .f .given .0 .0) (v .f .given .0 .1 .0 .at)
+    (sym (u .before .before .before .first-bad-instruction .ensures) ∙ u .before .enum-told2 .given .1))
+
 enum-known-broken : tie.Need-enum-known-broken
 enum-known-broken c = search needs
 
@@ -66,7 +82,7 @@ returns-3 c =
       c .before .before .before .before .before .before .before .before .f .given .1,
       ← c .before .before .before .before .before .before .first-bad-instruction .ensures,
       c .before .before .before .before .enum-told2 .given .1,
-      ← c .before .before .before .first-broken .ensures,
+      ← broken-there (c .before .before .before),
       c .before .broken .given .1,
     )
 
@@ -78,7 +94,7 @@ returns-4 c =
       c .before .before .before .before .before .before .before .f .given .1,
       ← c .before .before .before .before .before .first-bad-instruction .ensures,
       c .before .before .before .enum-told2 .given .1,
-      ← c .before .before .first-broken .ensures,
+      ← broken-there (c .before .before),
       c .enum-told3 .given .1,
     )
 

@@ -1,14 +1,18 @@
 -- `first_broken`: the rest of the scan from this place, with the entries in the array, equals the whole. Assumes nothing.
-use Prim.Native.Nat.{_+_, _-_, _≤_}
+use Prim.Native.Nat.{ℕ, _+_, _-_, _*_, _≤_}
 use mathlib.Core.Path.{_≡_, refl, sym, _∙_, ap}
-use mathlib.Core.List.{[]}
+use mathlib.Core.List.{List, []}
 use lib.ListN.{length}
 use native.Mathlib.Omega.{arith}
 use borrow.Author.Needs.{needs}
-use Rattle.program.specs.Layout.{instructionsAt}
+use Rattle.program.specs.Instruction.{decodeAt, instructionOf}
+use Rattle.program.specs.Layout.{AllValid, instructionsAt}
 use Rattle.program.specs.Nesting.{firstBroken, atCodeEnd}
-use Rattle.program.specs.Stack.{entriesOf, entriesAfter, depthAfter, Room}
+use Rattle.program.specs.Stack.{entriesOf, entriesAfter, depthAfter, under, Room}
+use Rattle.program.specs.declared.found.Found.{Found}
 use Rattle.program.specs.declared.found.Found.the-variants.{At}
+use Rattle.program.specs.declared.instruction.Instruction.{Instruction}
+use Rattle.program.specs.declared.nesting.Entry.{Entry}
 use Rattle.program.specs.declared.nesting.Change.{Change}
 use Rattle.program.specs.declared.nesting.Change.the-variants.{Keep, Push, Replace, Pop}
 use Rattle.program.specs.declared.nesting.Turn.the-variants.{Broken, Goes}
@@ -18,69 +22,104 @@ use Rattle.program.proofs.nesting.first_broken.Statement.{statement}
 use Rattle.program.proofs.nesting.first_broken.Tie as tie
 
 abbrev Inv-loop : tie.InvT-loop
-Inv-loop s start n locks variables entries₀ depth₀ p₀ entries depth p =
-    (p ≤ n) × (depth ≤ 16) × (length entries ≡ 16)
-    × (restFrom locks variables s start n p (entriesOf depth entries) ≡ firstBroken 0 (instructionsAt locks variables s n start) [])
+Inv-loop s start n entries₀ depth₀ p₀ entries depth p =
+    (p ≤ n) × (depth ≤ 16) × (length entries ≡ 17)
+    × ((locks variables : ℕ) → AllValid locks variables s n start
+    → restFrom locks variables s start n p (entriesOf depth entries) ≡ firstBroken 0 (instructionsAt locks variables s n start) [])
 
 abbrev μ-loop : tie.MeasureT-loop
-μ-loop s start n locks variables entries₀ depth₀ p₀ entries depth p = n - p
+μ-loop s start n entries₀ depth₀ p₀ entries depth p = n - p
 
--- one turn, by what `innermost`, `form_of`, `instruction_at` and `turn_at` ensure
+-- one turn, by what `innermost`, `form_of`, `valid_instruction_at` and `turn_at` ensure
 abbrev Place : Type 0
 Place = tie.After-turn-at Inv-loop μ-loop
+
+-- the instructions are valid for these numbers of locks and variables
+abbrev Valid : Place → (locks variables : ℕ) → Type 0
+Valid u locks variables =
+    let a = u .before .before .before .before .before .before .before .before .args in
+    AllValid locks variables (a .s .now) (a .n) (a .start)
+
+-- the instruction there
+abbrev there : Place → (locks variables : ℕ) → Instruction
+there u locks variables =
+    let a = u .before .before .before .before .before .before .before .before .args in
+    let l = u .before .before .before .before .before .before .loop in
+    instructionOf (decodeAt locks variables (a .s .now) (a .start + 4 * l .p))
+
+is-there : (u : Place) (locks variables : ℕ) → Valid u locks variables → u .before .before .before .before .valid-instruction-at .result ≡ there u locks variables
+is-there u locks variables valid =
+    u .before .before .before .before .valid-instruction-at .ensures locks variables (valid (u .before .before .before .before .before .before .loop .p) (u .before .before .before .before .before .loop-test .taken))
+
+-- the open entries
+abbrev open-entries : Place → ℕ → List Entry
+open-entries u depth = entriesOf depth (u .before .before .before .before .before .before .loop .entries)
+
+is-top : (u : Place) → open-entries u (u .before .before .before .before .before .before .loop .depth)
+    ≡ under (u .before .innermost .result) (open-entries u (u .before .before .before .before .before .before .loop .depth - 1))
+is-top u = u .before .innermost .ensures (u .before .before .before .before .before .before .loop .entries) refl
+
+-- the whole scan, and what is left of it after a change of the entries
+abbrev whole : Place → (locks variables : ℕ) → Found
+whole u locks variables =
+    let a = u .before .before .before .before .before .before .before .before .args in
+    firstBroken 0 (instructionsAt locks variables (a .s .now) (a .n) (a .start)) []
+
+abbrev rest : Place → Change → (locks variables : ℕ) → Found
+rest u ch locks variables =
+    let a = u .before .before .before .before .before .before .before .before .args in
+    let l = u .before .before .before .before .before .before .loop in
+    restFrom locks variables (a .s .now) (a .start) (a .n) (l .p + 1)
+    (entriesOf (depthAfter ch (l .depth)) (entriesAfter ch (l .depth) (l .entries)))
 
 -- the invariant, after a change of the entries
 abbrev Turned : Place → Change → Type 0
 Turned u ch =
-    let a = u .before .before .before .before .before .before .before .args in
-    let l = u .before .before .before .before .before .loop in
-    (l .p + 1 ≤ a .n) × (depthAfter ch (l .depth) ≤ 16) × (length (entriesAfter ch (l .depth) (l .entries)) ≡ 16)
-    × (restFrom (a .locks) (a .variables) (a .s .now) (a .start) (a .n) (l .p + 1) (entriesOf (depthAfter ch (l .depth)) (entriesAfter ch (l .depth) (l .entries)))
-    ≡ firstBroken 0 (instructionsAt (a .locks) (a .variables) (a .s .now) (a .n) (a .start)) [])
+    let a = u .before .before .before .before .before .before .before .before .args in
+    let l = u .before .before .before .before .before .before .loop in
+    (l .p + 1 ≤ a .n) × (depthAfter ch (l .depth) ≤ 16) × (length (entriesAfter ch (l .depth) (l .entries)) ≡ 17)
+    × ((locks variables : ℕ) → Valid u locks variables → rest u ch locks variables ≡ whole u locks variables)
 
 ends : (u : Place) → u .turn-at .result ≡ Broken
-    → firstBroken 0 (instructionsAt (u .before .before .before .before .before .before .before .args .locks) (u .before .before .before .before .before .before .before .args .variables) (u .before .before .before .before .before .before .before .args .s .now) (u .before .before .before .before .before .before .before .args .n) (u .before .before .before .before .before .before .before .args .start)) [] ≡ At (u .before .before .before .before .before .loop .p)
-ends u e =
-    let a = u .before .before .before .before .before .before .before .args in
-    let l = u .before .before .before .before .before .loop in
-    sym (l .inv .3) ∙ turn-broken (a .locks) (a .variables) (a .s .now) (a .start) (a .n) (l .p) (l .depth) (l .entries)
-    (u .turn-at .result) (u .before .innermost .result) (u .before .before .form-of .result) (u .before .before .before .instruction-at .result)
-    (u .before .before .before .instruction-at .ensures) (u .before .before .form-of .ensures) (u .before .innermost .ensures) (u .turn-at .ensures)
-    (u .before .before .before .before .loop-test .taken) e
+    → (locks variables : ℕ) → Valid u locks variables → whole u locks variables ≡ At (u .before .before .before .before .before .before .loop .p)
+ends u e locks variables valid =
+    let a = u .before .before .before .before .before .before .before .before .args in
+    let l = u .before .before .before .before .before .before .loop in
+    sym (l .inv .3 locks variables valid)
+    ∙ turn-broken (l .p) (l .depth) (l .entries) (u .turn-at .result) (u .before .innermost .result) (u .before .before .before .form-of .result) (is-top u) (u .turn-at .ensures)
+    locks variables (a .s .now) (a .start) (a .n) (u .before .before .before .before .valid-instruction-at .result)
+    (is-there u locks variables valid) (u .before .before .before .form-of .ensures) (u .before .before .before .before .before .loop-test .taken) e
 
-room : (u : Place) (ch : Change) → u .turn-at .result ≡ Goes ch → Room ch (u .before .before .before .before .before .loop .depth)
+room : (u : Place) (ch : Change) → u .turn-at .result ≡ Goes ch → Room ch (u .before .before .before .before .before .before .loop .depth)
 room u =
-    let a = u .before .before .before .before .before .before .before .args in
-    let l = u .before .before .before .before .before .loop in
-    turn-room (a .locks) (a .variables) (a .s .now) (a .start) (a .n) (l .p) (l .depth) (l .entries)
-    (u .turn-at .result) (u .before .innermost .result) (u .before .before .form-of .result) (u .before .before .before .instruction-at .result)
-    (u .before .before .before .instruction-at .ensures) (u .before .before .form-of .ensures) (u .before .innermost .ensures) (u .turn-at .ensures)
-    (u .before .before .before .before .loop-test .taken)
+    let l = u .before .before .before .before .before .before .loop in
+    turn-room (l .p) (l .depth) (l .entries) (u .turn-at .result) (u .before .innermost .result) (u .before .before .before .form-of .result) (is-top u) (u .turn-at .ensures)
 
 goes : (u : Place) (ch : Change) → u .turn-at .result ≡ Goes ch
-    → restFrom (u .before .before .before .before .before .before .before .args .locks) (u .before .before .before .before .before .before .before .args .variables) (u .before .before .before .before .before .before .before .args .s .now) (u .before .before .before .before .before .before .before .args .start) (u .before .before .before .before .before .before .before .args .n) (u .before .before .before .before .before .loop .p + 1)
-    (entriesOf (depthAfter ch (u .before .before .before .before .before .loop .depth)) (entriesAfter ch (u .before .before .before .before .before .loop .depth) (u .before .before .before .before .before .loop .entries)))
-    ≡ firstBroken 0 (instructionsAt (u .before .before .before .before .before .before .before .args .locks) (u .before .before .before .before .before .before .before .args .variables) (u .before .before .before .before .before .before .before .args .s .now) (u .before .before .before .before .before .before .before .args .n) (u .before .before .before .before .before .before .before .args .start)) []
-goes u ch e =
-    let a = u .before .before .before .before .before .before .before .args in
-    let l = u .before .before .before .before .before .loop in
-    sym (turn-goes (a .locks) (a .variables) (a .s .now) (a .start) (a .n) (l .p) (l .depth) (l .entries)
-    (u .turn-at .result) (u .before .innermost .result) (u .before .before .form-of .result) (u .before .before .before .instruction-at .result)
-    (u .before .before .before .instruction-at .ensures) (u .before .before .form-of .ensures) (u .before .innermost .ensures) (u .turn-at .ensures)
-    (u .before .before .before .before .loop-test .taken) ch e (l .inv .2) (l .inv .1)) ∙ l .inv .3
+    → (locks variables : ℕ) → Valid u locks variables → rest u ch locks variables ≡ whole u locks variables
+goes u ch e locks variables valid =
+    let a = u .before .before .before .before .before .before .before .before .args in
+    let l = u .before .before .before .before .before .before .loop in
+    sym (turn-goes (l .p) (l .depth) (l .entries) (u .turn-at .result) (u .before .innermost .result) (u .before .before .before .form-of .result) (is-top u) (u .turn-at .ensures)
+    locks variables (a .s .now) (a .start) (a .n) (u .before .before .before .before .valid-instruction-at .result)
+    (is-there u locks variables valid) (u .before .before .before .form-of .ensures) (u .before .before .before .before .before .loop-test .taken)
+    ch e (l .inv .2) (l .inv .1)) ∙ l .inv .3 locks variables valid
 
-at-end : (u : tie.After-loop Inv-loop μ-loop)
-    → firstBroken 0 (instructionsAt (u .before .before .before .args .locks) (u .before .before .before .args .variables) (u .before .before .before .args .s .now) (u .before .before .before .args .n) (u .before .before .before .args .start)) []
+at-end : (u : tie.After-loop Inv-loop μ-loop) (locks variables : ℕ)
+    → AllValid locks variables (u .before .before .before .args .s .now) (u .before .before .before .args .n) (u .before .before .before .args .start)
+    → firstBroken 0 (instructionsAt locks variables (u .before .before .before .args .s .now) (u .before .before .before .args .n) (u .before .before .before .args .start)) []
     ≡ atCodeEnd (u .before .loop .p) (entriesOf (u .before .loop .depth) (u .before .loop .entries))
-at-end u =
+at-end u locks variables valid =
     let a = u .before .before .before .args in
     let l = u .before .loop in
-    sym (l .inv .3)
-    ∙ broken-end (a .locks) (a .variables) (a .s .now) (a .start) (a .n) (l .p) (entriesOf (l .depth) (l .entries)) (u .loop-test .left)
+    sym (l .inv .3 locks variables valid)
+    ∙ broken-end locks variables (a .s .now) (a .start) (a .n) (l .p) (entriesOf (l .depth) (l .entries)) (u .loop-test .left)
 
 loop-holds : tie.Need-loop-holds Inv-loop μ-loop
 unfolding entriesOf
-loop-holds c = (omega arith, omega arith, refl, broken-start (c .before .args .locks) (c .before .args .variables) (c .before .args .s .now) (c .before .args .start) (c .before .args .n))
+loop-holds c =
+    let a = c .before .args in
+    (omega arith, omega arith, refl, λ locks variables valid. broken-start locks variables (a .s .now) (a .start) (a .n))
 
 mul-at : tie.Need-mul-at Inv-loop μ-loop
 mul-at c = omega arith
@@ -88,11 +127,17 @@ mul-at c = omega arith
 add-at : tie.Need-add-at Inv-loop μ-loop
 add-at c = omega arith
 
-instruction-at-requires : tie.Need-instruction-at-requires Inv-loop μ-loop
-instruction-at-requires c κs = omega arith
+valid-instruction-at-requires : tie.Need-valid-instruction-at-requires Inv-loop μ-loop
+valid-instruction-at-requires c κs = omega arith
 
 form-of-requires : tie.Need-form-of-requires Inv-loop μ-loop
 form-of-requires c κs = search needs
+
+mul-e : tie.Need-mul-e Inv-loop μ-loop
+mul-e c = omega arith
+
+array-copy-out-e : tie.Need-array-copy-out-e Inv-loop μ-loop
+array-copy-out-e c = omega arith
 
 innermost-requires : tie.Need-innermost-requires Inv-loop μ-loop
 innermost-requires c κs = omega arith
@@ -107,13 +152,13 @@ enum-told : tie.Need-enum-told Inv-loop μ-loop
 enum-told c = search needs
 
 returns : tie.Need-returns Inv-loop μ-loop
-returns c = rw (ends (c .before .before) (c .enum-told .given .1))
+returns c locks variables valid = rw (ends (c .before .before) (c .enum-told .given .1) locks variables valid)
 
 -- the invariant after a change
 turned : (u : Place) (ch : Change) → u .turn-at .result ≡ Goes ch → Turned u ch
 turned u ch e =
-    let l = u .before .before .before .before .before .loop in (
-      omega (arith, u .before .before .before .before .loop-test .taken),
+    let l = u .before .before .before .before .before .before .loop in (
+      omega (arith, u .before .before .before .before .before .loop-test .taken),
       depth-change ch (l .depth) (l .inv .1) (room u ch e),
       length-change ch (l .depth) (l .entries) ∙ l .inv .2,
       goes u ch e,
@@ -134,14 +179,14 @@ loop-again c = turned (c .before .before .before .before .before) Keep (c .befor
 enum-known-ch : tie.Need-enum-known-ch Inv-loop μ-loop
 enum-known-ch c = search needs
 
-mul-entries : tie.Need-mul-entries Inv-loop μ-loop
-mul-entries c = omega arith
-
-array-set-from-entries : tie.Need-array-set-from-entries Inv-loop μ-loop
-array-set-from-entries c = room (c .before .before .before .before .before .before) (Push (c .before .ch .given .0 .0)) (c .before .before .before .before .t .given .1 ∙ ap Goes (c .before .ch .given .1))
-
 add-depth : tie.Need-add-depth Inv-loop μ-loop
 add-depth c = omega arith
+
+mul-entries : tie.Need-mul-entries Inv-loop μ-loop
+mul-entries c = omega (arith, room (c .before .before .before .before .before .before) (Push (c .before .ch .given .0 .0)) (c .before .before .before .before .t .given .1 ∙ ap Goes (c .before .ch .given .1)))
+
+array-set-from-entries : tie.Need-array-set-from-entries Inv-loop μ-loop
+array-set-from-entries c = omega (arith, room (c .before .before .before .before .before .before) (Push (c .before .ch .given .0 .0)) (c .before .before .before .before .t .given .1 ∙ ap Goes (c .before .ch .given .1)))
 
 loop-less-2 : tie.Need-loop-less-2 Inv-loop μ-loop
 loop-less-2 c = omega arith
@@ -152,14 +197,11 @@ loop-again-2 c = turned (c .before .before .before .before .before .before) (Pus
 enum-known-ch-2 : tie.Need-enum-known-ch-2 Inv-loop μ-loop
 enum-known-ch-2 c = search needs
 
-sub-entries : tie.Need-sub-entries Inv-loop μ-loop
-sub-entries c = omega (arith, room (c .before .before .before .before .before .before) (Replace (c .before .ch2 .given .0 .0)) (c .before .before .before .before .t .given .1 ∙ ap Goes (c .before .ch2 .given .1)))
-
 mul-entries-2 : tie.Need-mul-entries-2 Inv-loop μ-loop
 mul-entries-2 c = omega arith
 
 array-set-from-entries-2 : tie.Need-array-set-from-entries-2 Inv-loop μ-loop
-array-set-from-entries-2 c = omega (arith, room (c .before .before .before .before .before .before) (Replace (c .before .ch2 .given .0 .0)) (c .before .before .before .before .t .given .1 ∙ ap Goes (c .before .ch2 .given .1)))
+array-set-from-entries-2 c = omega arith
 
 loop-less-3 : tie.Need-loop-less-3 Inv-loop μ-loop
 loop-less-3 c = omega arith
@@ -181,7 +223,7 @@ loop-again-4 c = turned (c .before .before .before .before .before) Pop (c .befo
 
 returns-2 : tie.Need-returns-2 Inv-loop μ-loop
 unfolding entriesOf atCodeEnd
-returns-2 c = rw (at-end (c .before), c .if1 .taken)
+returns-2 c locks variables valid = rw (at-end (c .before) locks variables valid, c .if1 .taken)
 
 mul-t29 : tie.Need-mul-t29 Inv-loop μ-loop
 mul-t29 c = omega arith
@@ -191,10 +233,10 @@ add-t30 c = omega arith
 
 returns-3 : tie.Need-returns-3 Inv-loop μ-loop
 unfolding atCodeEnd
-returns-3 c =
+returns-3 c locks variables valid =
     let l = c .before .before .loop in
     let e : l .p ≡ c .before .before .before .before .args .n = omega arith in
-    rw (at-end (c .before), entries-top (l .depth) (l .entries) (omega arith), e)
+    rw (at-end (c .before) locks variables valid, entries-top (l .depth) (l .entries) (omega arith), e)
 
 pub first-broken-spec : {M : Type 1} → statement M
 first-broken-spec =
@@ -205,8 +247,10 @@ first-broken-spec =
     loop-holds
     mul-at
     add-at
-    instruction-at-requires
+    valid-instruction-at-requires
     form-of-requires
+    mul-e
+    array-copy-out-e
     innermost-requires
     turn-at-requires
     enum-known-t
@@ -217,13 +261,12 @@ first-broken-spec =
     loop-less
     loop-again
     enum-known-ch
+    add-depth
     mul-entries
     array-set-from-entries
-    add-depth
     loop-less-2
     loop-again-2
     enum-known-ch-2
-    sub-entries
     mul-entries-2
     array-set-from-entries-2
     loop-less-3

@@ -8,19 +8,10 @@ use Rattle.program.proofs.nesting.innermost.Tie as tie
 
 returns : tie.Need-returns
 unfolding entriesOf
-returns c = rw (c .if1 .taken)
-
-sub-t5 : tie.Need-sub-t5
-sub-t5 c = search needs
-
-mul-t6 : tie.Need-mul-t6
-mul-t6 c = search needs
-
-array-copy-out-t9 : tie.Need-array-copy-out-t9
-array-copy-out-t9 c = search needs
+returns c entries e = rw (c .if1 .taken)
 
 returns-2 : tie.Need-returns-2
-returns-2 c = entries-top (c .before .before .args .depth) (c .before .before .args .t1) (omega arith)
+returns-2 c entries e = rw e (entries-top (c .before .args .depth) entries (omega arith))
 
 pub innermost-spec : {M : Type 1} → statement M
-innermost-spec = tie.close (tie.spec returns sub-t5 mul-t6 array-copy-out-t9 returns-2)
+innermost-spec = tie.close (tie.spec returns returns-2)

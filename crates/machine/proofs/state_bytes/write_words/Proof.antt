@@ -7,8 +7,8 @@ use lib.ListN.{length, take}
 use lib.Seq.{sets}
 use Rattle.machine.specs.State.{each, wordBytes}
 use Rattle.machine.proofs.StateBytes.{write-each, length-first-words}
-use Rattle.machine.proofs.bytes.write_words.Statement.{statement}
-use Rattle.machine.proofs.bytes.write_words.Tie as tie
+use Rattle.machine.proofs.state_bytes.write_words.Statement.{statement}
+use Rattle.machine.proofs.state_bytes.write_words.Tie as tie
 
 abbrev Inv-loop : tie.InvT-loop
 Inv-loop out₀ at n words i₀ out i = (i ≤ n) × (length out ≡ length out₀) × (out ≡ sets out₀ at (each wordBytes (take i words)))

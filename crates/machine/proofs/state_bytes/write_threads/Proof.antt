@@ -8,8 +8,8 @@ use lib.Seq.{sets}
 use Rattle.machine.specs.Kept.{nobody, EightRegisters}
 use Rattle.machine.specs.State.{each, threadBytes}
 use Rattle.machine.proofs.StateBytes.{write-each, length-first-threads}
-use Rattle.machine.proofs.bytes.write_threads.Statement.{statement}
-use Rattle.machine.proofs.bytes.write_threads.Tie as tie
+use Rattle.machine.proofs.state_bytes.write_threads.Statement.{statement}
+use Rattle.machine.proofs.state_bytes.write_threads.Tie as tie
 
 abbrev Inv-loop : tie.InvT-loop
 Inv-loop out₀ at n threads i₀ out i = (i ≤ n) × (length out ≡ length out₀) × (out ≡ sets out₀ at (each threadBytes (take i threads)))

@@ -6,8 +6,8 @@ use borrow.Author.Needs.{needs}
 use lib.ListN.{length, take, length-set}
 use lib.Seq.{sets}
 use Rattle.machine.proofs.StateBytes.{write-byte}
-use Rattle.machine.proofs.bytes.write_bytes.Statement.{statement}
-use Rattle.machine.proofs.bytes.write_bytes.Tie as tie
+use Rattle.machine.proofs.state_bytes.write_bytes.Statement.{statement}
+use Rattle.machine.proofs.state_bytes.write_bytes.Tie as tie
 
 abbrev Inv-loop : tie.InvT-loop
 Inv-loop out₀ at n bytes i₀ out i = (i ≤ n) × (length out ≡ length out₀) × (out ≡ sets out₀ at (take i bytes))

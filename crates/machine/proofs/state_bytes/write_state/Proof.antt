@@ -5,8 +5,8 @@ use lib.Seq.{length-take-le}
 use Rattle.machine.specs.Kept.{stateIn}
 use Rattle.machine.proofs.StateBytes.{write-state, length-first-words}
 use borrow.Author.Needs.{needs}
-use Rattle.machine.proofs.bytes.write_state.Statement.{statement}
-use Rattle.machine.proofs.bytes.write_state.Tie as tie
+use Rattle.machine.proofs.state_bytes.write_state.Statement.{statement}
+use Rattle.machine.proofs.state_bytes.write_state.Tie as tie
 
 mul-past-variables : tie.Need-mul-past-variables
 mul-past-variables c = search needs

@@ -4,8 +4,8 @@ use native.Mathlib.Omega.{arith}
 use borrow.Author.Needs.{needs}
 use lib.ListN.{length-set}
 use Rattle.machine.specs.State.{wordBytes}
-use Rattle.machine.proofs.bytes.write_word.Statement.{statement}
-use Rattle.machine.proofs.bytes.write_word.Tie as tie
+use Rattle.machine.proofs.state_bytes.write_word.Statement.{statement}
+use Rattle.machine.proofs.state_bytes.write_word.Tie as tie
 
 cast-out : tie.Need-cast-out
 cast-out c = search needs

@@ -5,8 +5,8 @@ use borrow.Author.Needs.{needs}
 use lib.Seq.{take-all}
 use Rattle.machine.specs.State.{each, pairBytes, wordBytes, threadBytes}
 use Rattle.machine.proofs.StateBytes.{sets-append}
-use Rattle.machine.proofs.bytes.write_thread.Statement.{statement}
-use Rattle.machine.proofs.bytes.write_thread.Tie as tie
+use Rattle.machine.proofs.state_bytes.write_thread.Statement.{statement}
+use Rattle.machine.proofs.state_bytes.write_thread.Tie as tie
 
 write-pair-requires : tie.Need-write-pair-requires
 write-pair-requires c κs = search needs
