@@ -139,6 +139,8 @@ fn two_threads_take_turns_at_a_lock() {
 #[test]
 fn empty_file_is_refused_at_0() {
     assert_eq!(judge_in(10, &[]), refused(1, 0));
+    assert_eq!(run_in(10, &[], &[], 0), refused(1, 0));
+    assert_eq!(line_in(48, &[], 0), refused(1, 0));
     assert_eq!(bench(&[]), b"refused 1 at 0\n");
 }
 
@@ -158,7 +160,8 @@ fn sixteen_open_entries_pass() {
     for _ in 0..MAX_OPEN {
         code = block(&code);
     }
-    assert_eq!(report(OPEN, &code).map(|report| report.len()), Ok(33));
+    let expected = [[1; MAX_OPEN], [0; MAX_OPEN]].concat();
+    assert_eq!(report(OPEN, &code), Ok([&expected[..], &[1]].concat()));
 }
 
 #[test]
