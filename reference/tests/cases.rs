@@ -139,6 +139,8 @@ fn two_threads_take_turns_at_a_lock() {
 #[test]
 fn empty_file_is_refused_at_0() {
     assert_eq!(judge_in(10, &[]), refused(1, 0));
+    assert_eq!(run_in(10, &[], &[], 0), refused(1, 0));
+    assert_eq!(line_in(48, &[], 0), refused(1, 0));
     assert_eq!(bench(&[]), b"refused 1 at 0\n");
 }
 
@@ -158,7 +160,8 @@ fn sixteen_open_entries_pass() {
     for _ in 0..MAX_OPEN {
         code = block(&code);
     }
-    assert_eq!(report(OPEN, &code).map(|report| report.len()), Ok(33));
+    let expected = [[1; MAX_OPEN], [0; MAX_OPEN]].concat();
+    assert_eq!(report(OPEN, &code), Ok([&expected[..], &[1]].concat()));
 }
 
 #[test]
@@ -329,6 +332,78 @@ fn the_example_reads_its_variable() {
     let mut end = hex("00000005 00 0003 00000000 00000000 00000005");
     end.resize(39, 0);
     assert_eq!(state, end);
+}
+
+// The verified test program.
+
+fn numbers(bytes: &[u8]) -> String {
+    bytes.iter().map(|byte| format!(" {byte}")).collect()
+}
+
+/// What `crates/cases` prints of a judgement.
+fn judged(name: &str, answer: Result<Vec<u8>, Refusal>) -> String {
+    match answer {
+        Ok(report) => format!("{name}: report{}\n", numbers(&report)),
+        Err(refusal) => refusal_of(name, refusal),
+    }
+}
+
+fn refusal_of(name: &str, refusal: Refusal) -> String {
+    format!("{name}: refused {} at {}\n", refusal.number, refusal.detail)
+}
+
+fn empty_cases() -> String {
+    let run = run_in(40, &[], &[], 0).unwrap_err();
+    let line = line_in(48, &[], 0).unwrap_err();
+    let (counts, state) = run_in(40, &hex(EXAMPLE), &[], 39).unwrap();
+    let Counts {
+        moved,
+        waiting,
+        idle,
+    } = counts;
+    [
+        judged("empty file, judge", judge_in(10, &[])),
+        refusal_of("empty file, run", run),
+        refusal_of("empty file, line", line),
+        format!("empty list: moved {moved}, waiting {waiting}, idle {idle}, "),
+        format!("buffer{} 255\n", numbers(&state)),
+    ]
+    .concat()
+}
+
+/// `crates/cases` executes the cases without a star and the mistakes through the verified calls.
+#[test]
+fn the_test_program_prints_these_answers() {
+    let of = |name, variable, code: &[Instruction]| judged(name, report(variable, code));
+    let nested = |depth| (0..depth).fold(Vec::new(), |code, _| repeat(&code));
+    let again = repeat(&[TAKE, GIVE]);
+    let whole = line_in(48, &file(1, &[], &[&again]), 9).unwrap();
+    let both_take = [choice(&[TAKE], &[TAKE]), vec![GIVE]].concat();
+    let else_reads = [choice(&[TAKE, READ], &[READ]), vec![GIVE]].concat();
+    let joined = Atomicity::L.join(Atomicity::R).report_byte();
+    let name = "WHILE around TAKE, GIVE";
+    let lines = [
+        empty_cases(),
+        of("16 entries open", GUARDED_BY_K0, &nested(16)),
+        of("17 entries open", GUARDED_BY_K0, &nested(17)),
+        of("READ before TAKE", GUARDED_BY_K0, &[READ, TAKE, GIVE]),
+        of(name, OPEN, &again),
+        format!("{name}, last line: {}", String::from_utf8(whole).unwrap()),
+        of(&format!("{name} in a block"), OPEN, &block(&again)),
+        of("A;A", OPEN, &[READ, READ]),
+        of("A;A in a block", OPEN, &block(&[READ, READ])),
+        of("WHILE around A", OPEN, &repeat(&[READ])),
+        of("WHILE around A in a block", OPEN, &block(&repeat(&[READ]))),
+        format!("L joined with R: {joined}\n"),
+        of("both parts TAKE", GUARDED_BY_K0, &both_take),
+        of(
+            "the else part READs without TAKE",
+            GUARDED_BY_K0,
+            &else_reads,
+        ),
+    ];
+    let stdout = include_str!("../../crates/cases/stdout");
+    assert_eq!(lines.concat(), stdout);
 }
 
 // Every instruction's line, and the longest line.

@@ -1,0 +1,163 @@
+//! The verified program `bench`: on the stored files it prints what stands beside them, on
+//! generated ones what the library's calls answer.
+#![cfg(feature = "line")]
+
+mod stored;
+
+use std::collections::BTreeMap;
+use std::env;
+use std::io::Write;
+use std::path::{Path, PathBuf};
+use std::process::{Command, Stdio};
+use std::thread;
+use std::time::Duration;
+
+use hogunlas::{LINE_BUFFER, MAX_FILE};
+use hogunlas_reference::generate::{self, Rng};
+
+/// How much bench reads at most.
+const INPUT: usize = MAX_FILE + 1;
+
+/// The program: `HOGUNLAS_BENCH`, or what `rt check` leaves.
+fn program() -> PathBuf {
+    let program = match env::var_os("HOGUNLAS_BENCH") {
+        Some(program) => PathBuf::from(program),
+        None => Path::new(env!("CARGO_MANIFEST_DIR")).join("../target/bin/bench"),
+    };
+    assert!(
+        program.is_file(),
+        "there is no {}: run `rt check bench` at the repository's root, or set HOGUNLAS_BENCH",
+        program.display()
+    );
+    program
+}
+
+/// What bench prints if it gets these pieces one after the other. It has to end normally.
+fn printed_piecewise(pieces: &[&[u8]], pause: Duration) -> Vec<u8> {
+    let mut running = Command::new(program())
+        .stdin(Stdio::piped())
+        .stdout(Stdio::piped())
+        .stderr(Stdio::piped())
+        .spawn()
+        .expect("bench starts");
+    let mut stdin = running.stdin.take().expect("a pipe");
+    let output = thread::scope(|scope| {
+        scope.spawn(move || {
+            for piece in pieces {
+                // Past what it reads, bench may have ended already.
+                let _ = stdin.write_all(piece);
+                thread::sleep(pause);
+            }
+        });
+        running.wait_with_output().expect("bench ends")
+    });
+    assert!(output.status.success(), "bench: {}", output.status);
+    assert!(output.stderr.is_empty(), "bench wrote to standard error");
+    output.stdout
+}
+
+fn printed(input: &[u8]) -> Vec<u8> {
+    printed_piecewise(&[input], Duration::ZERO)
+}
+
+/// All lines joined, or the refusal, as `line` answers them.
+fn answered(file: &[u8]) -> Vec<u8> {
+    let mut printout = Vec::new();
+    for i in 0.. {
+        let mut text = [0; LINE_BUFFER];
+        match hogunlas::line(file, i, &mut text) {
+            Ok(length) => printout.extend_from_slice(&text[..length]),
+            Err(refusal) if refusal.number == 17 => break,
+            Err(refusal) => return format!("{refusal}\n").into_bytes(),
+        }
+    }
+    printout
+}
+
+/// Compares as text, which a failure shows.
+fn assert_prints(input: &[u8], wanted: &[u8], case: &str) {
+    let printed = printed(input);
+    let text = String::from_utf8_lossy;
+    assert_eq!(text(&printed), text(wanted), "{case}");
+    assert_eq!(printed, wanted, "{case}");
+}
+
+fn prints_the_stored(folder: &str) {
+    for case in stored::all(folder) {
+        assert_prints(&case.file, &case.printout, &case.name);
+    }
+}
+
+#[test]
+fn bench_prints_the_examples() {
+    prints_the_stored(stored::EXAMPLES);
+}
+
+#[test]
+fn bench_prints_the_cases() {
+    prints_the_stored(stored::CASES);
+}
+
+#[test]
+fn bench_prints_all_lines_of_accepted_files() {
+    for seed in 0..200 {
+        let file = generate::accepted_file(&mut Rng::new(seed));
+        let wanted = answered(&file);
+        assert!(wanted.starts_with(b"01 version 1\n"), "seed {seed}");
+        assert_prints(&file, &wanted, &format!("seed {seed}"));
+    }
+}
+
+/// Sixteen files of each refusal.
+#[test]
+fn bench_prints_the_refusals() {
+    let mut met: BTreeMap<u32, u32> = (1..=13).map(|number| (number, 0)).collect();
+    let mut seeds = 0..100_000;
+    while met.values().any(|&times| times < 16) {
+        let seed = seeds.next().expect("a generator that brings every refusal");
+        let file = generate::file(&mut Rng::new(seed));
+        let mut report = [0; hogunlas::MAX_REPORT];
+        let Err(refusal) = hogunlas::judge(&file, &mut report) else {
+            continue;
+        };
+        let times = met.get_mut(&refusal.number).expect("a refusal of the file");
+        if *times == 16 {
+            continue;
+        }
+        *times += 1;
+        let wanted = format!("refused {} at {}\n", refusal.number, refusal.detail);
+        assert_prints(&file, wanted.as_bytes(), &format!("seed {seed}"));
+    }
+}
+
+/// As the reimplementation does, whose lines are `line`'s (`differential/line.rs`).
+#[test]
+fn bench_prints_the_largest_file() {
+    let file = generate::largest_file(&mut Rng::new(1));
+    assert_eq!(file.len(), MAX_FILE);
+    assert!(printed(&file) == hogunlas_reference::bench(&file));
+}
+
+/// The largest file with bytes left over: what bench does not read cannot alter the answer.
+#[test]
+fn bench_refuses_what_is_too_long() {
+    let mut file = generate::largest_file(&mut Rng::new(2));
+    for length in [INPUT, 40_000, 1_000_000] {
+        file.resize(length, 0);
+        let case = format!("{length} bytes");
+        assert_prints(&file, b"refused 5 at 33173\n", &case);
+    }
+}
+
+/// A pipe may hand over less than is asked for.
+#[test]
+fn bench_waits_for_the_rest_of_its_input() {
+    let example = stored::one(stored::EXAMPLES, "document");
+    let bytes: Vec<&[u8]> = example.file.chunks(1).collect();
+    let printed = printed_piecewise(&bytes, Duration::from_millis(2));
+    assert_eq!(printed, example.printout);
+    let largest = generate::largest_file(&mut Rng::new(3));
+    let pieces: Vec<&[u8]> = largest.chunks(5_000).collect();
+    let printed = printed_piecewise(&pieces, Duration::from_millis(2));
+    assert!(printed == hogunlas_reference::bench(&largest));
+}

@@ -1,0 +1,21 @@
+// Document 01's cases that have no star, executed through the public calls, then those of its mistakes that look reasonable which a call
+// can show. Each prints a line; the file stdout beside src/ holds what document 01 says. (The starred cases are proved:
+// crates/hogunlas/specs/Cases.antt.)
+mod code;
+mod mistakes;
+mod show;
+mod stated;
+
+fn main() {
+    stated::empty_file();
+    stated::empty_list();
+    stated::sixteen_entries();
+    stated::seventeenth_entry();
+    stated::read_before_take();
+    stated::repeated_outside_a_block();
+    stated::repeated_within_a_block();
+    mistakes::atomic_then_atomic();
+    mistakes::closure_of_atomic();
+    mistakes::left_joined_with_right();
+    mistakes::locks_of_the_then_part();
+}

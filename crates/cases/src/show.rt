@@ -1,0 +1,88 @@
+// The public calls, and what they answer: the case's name, then a report, counts and state, a line, or a refusal.
+use hogunlas::Judged;
+use hogunlas::Printed;
+use hogunlas::Ran;
+use program::refusal::Refusal;
+use program::refusal::detail;
+use program::refusal::number;
+
+pub fn judge(name: &[u8], file: &[u8]) {
+    text(name);
+    let mut report = [0u8; 8200];
+    match hogunlas::judge(file, &mut report) {
+        Judged::Refused(refusal) => refused(refusal),
+        Judged::Report(n) => {
+            text(b"report");
+            bytes(first(&report, n));
+            text(b"\n");
+        }
+    }
+}
+
+// The whole buffer is shown. It held 255s, and is a byte longer than the example file's state.
+pub fn run(name: &[u8], file: &[u8], list: &[u8]) {
+    text(name);
+    let mut state = [255u8; 40];
+    match hogunlas::run(file, list, &mut state) {
+        Ran::Refused(refusal) => refused(refusal),
+        Ran::Counts(moved, waiting, idle) => {
+            decimal(b"moved ", moved);
+            decimal(b", waiting ", waiting);
+            decimal(b", idle ", idle);
+            text(b", buffer");
+            bytes(&state);
+            text(b"\n");
+        }
+    }
+}
+
+pub fn line(name: &[u8], file: &[u8], i: usize) {
+    text(name);
+    let mut out = [0u8; 48];
+    match hogunlas::line(file, i, &mut out) {
+        Printed::Refused(refusal) => refused(refusal),
+        Printed::Line(n) => text(first(&out, n)),
+    }
+}
+
+// One report byte.
+pub fn byte(name: &[u8], of: u8) {
+    decimal(name, wide(of));
+    text(b"\n");
+}
+
+// The first n bytes, or all if there are fewer.
+pub fn first<'a>(of: &'a [u8], n: usize) -> &'a [u8] {
+    if of.len() < n {
+        return of;
+    }
+    &of[0..n]
+}
+
+fn refused(refusal: Refusal) {
+    decimal(b"refused ", number(refusal));
+    decimal(b" at ", detail(refusal));
+    text(b"\n");
+}
+
+// Each byte's value, a blank before it.
+fn bytes(of: &[u8]) {
+    let mut i = 0;
+    while i < of.len() {
+        decimal(b" ", wide(of[i]));
+        i += 1;
+    }
+}
+
+fn wide(byte: u8) -> usize {
+    byte as usize
+}
+
+fn decimal(words: &[u8], n: usize) {
+    text(words);
+    io::print_decimal(1, n as u64);
+}
+
+fn text(words: &[u8]) {
+    io::write_all(1, words);
+}
