@@ -1,6 +1,6 @@
 -- What bench prints for each answer of judging. Assumes nothing.
 --     output-refused, output-accepted
-use Prim.Native.Nat.{ℕ, _+_, _≤_}
+use Prim.Native.Nat.{ℕ, _≤_}
 use mathlib.Core.Path.{_≡_, sym, ap}
 use mathlib.Core.List.{List, _++_}
 use lib.ListN.{length, drop}

@@ -1,4 +1,5 @@
 -- Lines laid over a buffer one after the other. Assumes nothing.
+--     laid-fits                           what is laid over a buffer lies within it
 --     lines-none, lines-next, lines-all   before the first line, after one more, after the last
 --     lines-length, lines-room            the buffer keeps its length, and has room for each line
 use Prim.Native.Nat.{ℕ, _+_, _-_, _*_, _<_, _≤_}
@@ -10,13 +11,7 @@ use lib.ListN.{length, take, drop, getD, length-append, length-drop, drop-of-len
 use lib.Seq.{take-suc, take-all, take-at, drop-at, drop-drop}
 use Rattle.hogunlas.specs.Calls.{joined, laidOver}
 use Rattle.printout.specs.Writing.{Printed}
-
--- the first i lines are laid over the buffer, at most 48 bytes each, and `at` is the position after them
-pub record Lines (lines : List (List ℕ)) (i : ℕ) (buffer after : List ℕ) (at : ℕ) : Type 0 where
-  pub within : i ≤ length lines
-  pub ends : at ≡ length (joined (take i lines))
-  pub bytes : after ≡ laidOver (joined (take i lines)) buffer
-  pub short : at ≤ 48 * i
+use Rattle.bench.specs.Printing.{Lines}
 
 -- one line more
 joined-snoc : (ls : List (List ℕ)) (l : List ℕ) → joined (ls ++ l ∷ []) ≡ joined ls ++ l

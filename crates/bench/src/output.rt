@@ -17,7 +17,7 @@ ghost use Rattle.hogunlas.specs.Calls.{benchOutput, joined, laidOver};
 // All lines of an accepted file, with its report, one after the other; answers how many bytes they take.
 fn print_lines(file: &[u8], l: Layout, report: &[u8], text: &mut [u8]) -> usize
     requires { ⌜ (reading (now file) ≡ Sound l) × (l .instructions + l .threads ≤ length (now report)) × (397248 ≤ length (now text)) ⌝ }
-    ensures length { λ r. ⌜ r ≡ length (joined (lines (now (file .entry)) (programOf (now (file .entry)) l) (now (report .entry)))) ⌝ }
+    ensures result { λ r. ⌜ r ≡ length (joined (lines (now (file .entry)) (programOf (now (file .entry)) l) (now (report .entry)))) ⌝ }
     ensures buffer { λ _. ⌜ now (text .exit) ≡ laidOver (joined (lines (now (file .entry)) (programOf (now (file .entry)) l) (now (report .entry)))) (now (text .entry)) ⌝ }
 {
     let count = line_count(l);
@@ -33,7 +33,7 @@ fn print_lines(file: &[u8], l: Layout, report: &[u8], text: &mut [u8]) -> usize
 // The whole output for an input, laid over the front of the buffer; answers how many bytes it takes.
 pub fn output(input: &[u8], text: &mut [u8]) -> usize
     requires { ⌜ (length (now input) ≤ 33174) × (397248 ≤ length (now text)) ⌝ }
-    ensures length { λ r. ⌜ r ≡ length (benchOutput (now (input .entry))) ⌝ }
+    ensures result { λ r. ⌜ r ≡ length (benchOutput (now (input .entry))) ⌝ }
     ensures buffer { λ _. ⌜ now (text .exit) ≡ laidOver (benchOutput (now (input .entry))) (now (text .entry)) ⌝ }
 {
     let mut report = [0u8; 8200];

@@ -2,11 +2,8 @@
 use borrow.Author.Needs.{needs}
 use native.Mathlib.Nat.{le-of-eq}
 use native.Mathlib.Omega.{arith}
-use Prim.Native.Nat.{_≤_}
-use mathlib.Core.Path.{_≡_, sym, ap}
-use lib.ListN.{length, drop, length-append, length-replicate, length-take}
+use mathlib.Core.Path.{sym}
 use lib.Seq.{length-take-le}
-use Rattle.hogunlas.specs.Calls.{benchOutput, laidOver}
 use Rattle.bench.proofs.Lines.{laid-fits}
 use Rattle.bench.proofs.main.Statement.{statement}
 use Rattle.bench.proofs.main.Tie as tie
@@ -27,9 +24,7 @@ slice-aggregate-output-2 : tie.Need-slice-aggregate-output-2
 slice-aggregate-output-2 c = search needs
 
 output-requires : tie.Need-output-requires
-output-requires c κs =
-    let fits = c .before .before .before .read-full .ensures in
-    (omega (arith, fits), le-of-eq (slice-aggregate-output-2 c))
+output-requires c κs = (omega (arith, c .before .before .before .read-full .ensures), le-of-eq (slice-aggregate-output-2 c))
 
 array-share-prefix-text : tie.Need-array-share-prefix-text
 array-share-prefix-text c = laid-fits _ _ (c .before .output .ensures .0) (c .before .output .ensures .1)

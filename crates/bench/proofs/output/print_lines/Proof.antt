@@ -1,14 +1,16 @@
 -- `print_lines` meets its contract: after i turns the first i lines are written. Assumes nothing.
 use native.Mathlib.Omega.{arith}
-use Prim.Native.Nat.{_+_, _-_, _≤_}
+use Prim.Native.Nat.{ℕ, _+_, _-_, _≤_}
 use mathlib.Core.Path.{_≡_, sym, _∙_}
+use mathlib.Core.List.{List}
 use lib.ListN.{length, length-drop, length-take}
 use Rattle.hogunlas.proofs.Opening.{counts-small}
 use Rattle.printout.proofs.Parts.{length-lines}
 use Rattle.printout.specs.Line.{lines}
 use Rattle.program.proofs.Sound.{sound-file}
 use Rattle.program.specs.Layout.{programOf}
-use Rattle.bench.proofs.Lines.{Lines, lines-none, lines-length, lines-room, lines-next, lines-all}
+use Rattle.bench.specs.Printing.{Lines}
+use Rattle.bench.proofs.Lines.{lines-none, lines-length, lines-room, lines-next, lines-all}
 use Rattle.bench.proofs.output.print_lines.Statement.{statement}
 use Rattle.bench.proofs.output.print_lines.Tie as tie
 
@@ -28,10 +30,14 @@ loop-holds c =
     let a = c .before .before .before .before .args in
     lines-none (lines (a .file .now) (programOf (a .file .now) (a .l)) (a .report .now)) (a .text .now)
 
--- there are as many lines as counted, and not too many
-counted : (c : tie.At-loop Inv-loop μ-loop)
-    → (length (lines (c .before .before .before .before .before .args .file .now) (programOf (c .before .before .before .before .before .args .file .now) (c .before .before .before .before .before .args .l)) (c .before .before .before .before .before .args .report .now)) ≡ c .before .line-count .result)
-    × (c .before .line-count .result ≤ 8276)
+-- all lines
+abbrev all : tie.At-loop Inv-loop μ-loop → List (List ℕ)
+all c =
+    let a = c .before .before .before .before .before .args in
+    lines (a .file .now) (programOf (a .file .now) (a .l)) (a .report .now)
+
+-- there are as many as counted, and not too many for the buffer
+counted : (c : tie.At-loop Inv-loop μ-loop) → (length (all c) ≡ c .before .line-count .result) × (c .before .line-count .result ≤ 8276)
 counted c =
     let start = c .before .before .before .before .before in
     let a = start .args in
@@ -55,7 +61,6 @@ part-write-line-end c = omega arith
 
 write-line-requires : tie.Need-write-line-requires Inv-loop μ-loop
 write-line-requires c κs =
-    let l = c .before .before .loop in
     let start = c .before .before .before .before .before .before .before in (
       start .pre .0,
       start .pre .1,
@@ -65,8 +70,8 @@ write-line-requires c κs =
 
 add-at : tie.Need-add-at Inv-loop μ-loop
 add-at c =
-    let l = c .before .before .before .before .before in
-    omega (arith, c .before .before .write-line .ensures .short, l .loop .inv .short, c .before .before .before .before .loop-test .taken, counted l .1)
+    let turn = c .before .before .before .before in
+    omega (arith, c .before .before .write-line .ensures .short, turn .before .loop .inv .short, turn .loop-test .taken, counted (turn .before) .1)
 
 add-i : tie.Need-add-i Inv-loop μ-loop
 add-i c = omega arith
