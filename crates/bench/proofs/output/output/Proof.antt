@@ -1,0 +1,68 @@
+-- `output` meets its contract: the file's refusal, or all its lines. Assumes nothing.
+use borrow.Author.Needs.{needs}
+use native.Mathlib.Omega.{arith}
+use Rattle.hogunlas.proofs.Answers.{as-accepted, as-refused, report-fits}
+use Rattle.hogunlas.proofs.Opening.{opened-by}
+use Rattle.bench.proofs.Answers.{output-refused, output-accepted}
+use Rattle.bench.proofs.output.output.Statement.{statement}
+use Rattle.bench.proofs.output.output.Tie as tie
+
+slice-aggregate-judge-file : tie.Need-slice-aggregate-judge-file
+slice-aggregate-judge-file c = search needs
+
+judge-file-requires : tie.Need-judge-file-requires
+judge-file-requires c κs = search needs
+
+enum-known-judging : tie.Need-enum-known-judging
+enum-known-judging c = search needs
+
+refusal-line-requires : tie.Need-refusal-line-requires
+refusal-line-requires c κs = search needs
+
+enum-known-judging-2 : tie.Need-enum-known-judging-2
+enum-known-judging-2 c = search needs
+
+slice-aggregate-print-lines : tie.Need-slice-aggregate-print-lines
+slice-aggregate-print-lines c = search needs
+
+print-lines-requires : tie.Need-print-lines-requires
+print-lines-requires c κs =
+    let judged = c .before .before .before .before .before .before in
+    let found = as-accepted _ _ _ _ (c .before .before .before .judging2 .given .1) (judged .judge-file .ensures) in
+    (found .reads, omega (arith, found .counted, report-fits found), judged .before .before .before .before .pre .1)
+
+same-length : tie.Need-same-length
+same-length c = search needs
+
+returns : tie.Need-returns
+returns c =
+    let judged = c .before .before .before .before .before .before .before .before in
+    let start = judged .before .before .before .before in
+    output-refused (start .args .input .now) (start .pre .0) _ (as-refused _ _ _ _ (c .before .before .before .before .before .judging .given .1) (judged .judge-file .ensures))
+    (start .args .text .now) _ _ (c .before .before .refusal-line .ensures)
+
+same-length-2 : tie.Need-same-length-2
+same-length-2 c = search needs
+
+returns-2 : tie.Need-returns-2
+returns-2 c =
+    let judged = c .before .before .before .before .before .before .before .before .before in
+    let start = judged .before .before .before .before in
+    let found = as-accepted _ _ _ _ (c .before .before .before .before .before .before .judging2 .given .1) (judged .judge-file .ensures) in
+    rw (output-accepted (start .args .input .now) (start .pre .0) found) (c .before .before .print-lines .ensures)
+
+pub output-spec : {M : Type 1} → statement M
+output-spec =
+    tie.close
+    (tie.spec
+    slice-aggregate-judge-file
+    judge-file-requires
+    enum-known-judging
+    refusal-line-requires
+    enum-known-judging-2
+    slice-aggregate-print-lines
+    print-lines-requires
+    same-length
+    returns
+    same-length-2
+    returns-2)

@@ -1,0 +1,3 @@
+-- Definitions for bench's proofs; what a reader must believe is `benchOutput` of hogunlas's specs/Calls.antt.
+--     Printing   how far printing has come
+pub mod Printing

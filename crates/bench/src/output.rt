@@ -1,0 +1,45 @@
+// What bench prints, put into a lent buffer that is large enough for the longest printout: 4 + 64 + 8 + 8,192 + 8 lines of at most 48
+// bytes.
+use judge::judging::Judging;
+use judge::judging::judge_file;
+use printout::line::refusal_line;
+use printout::print::line_count;
+use printout::print::write_line;
+use program::layout::Layout;
+ghost use mathlib.Core.Path.{_≡_};
+ghost use Prim.Native.Nat.{_+_, _≤_};
+ghost use lib.ListN.{length};
+ghost use Rattle.program.specs.Layout.{programOf, reading};
+ghost use Rattle.program.specs.declared.layout.Reading.the-variants.{Sound};
+ghost use Rattle.printout.specs.Line.{lines};
+ghost use Rattle.hogunlas.specs.Calls.{benchOutput, joined, laidOver};
+
+// All lines of an accepted file, with its report, one after the other; answers how many bytes they take.
+fn print_lines(file: &[u8], l: Layout, report: &[u8], text: &mut [u8]) -> usize
+    requires { ⌜ (reading (now file) ≡ Sound l) × (l .instructions + l .threads ≤ length (now report)) × (397248 ≤ length (now text)) ⌝ }
+    ensures result { λ r. ⌜ r ≡ length (joined (lines (now (file .entry)) (programOf (now (file .entry)) l) (now (report .entry)))) ⌝ }
+    ensures buffer { λ _. ⌜ now (text .exit) ≡ laidOver (joined (lines (now (file .entry)) (programOf (now (file .entry)) l) (now (report .entry)))) (now (text .entry)) ⌝ }
+{
+    let count = line_count(l);
+    let mut i = 0;
+    let mut at = 0;
+    while i < count {
+        at += write_line(file, l, report, i, &mut text[at..]);
+        i += 1;
+    }
+    at
+}
+
+// The whole output for an input, laid over the front of the buffer; answers how many bytes it takes.
+pub fn output(input: &[u8], text: &mut [u8]) -> usize
+    requires { ⌜ (length (now input) ≤ 33174) × (397248 ≤ length (now text)) ⌝ }
+    ensures result { λ r. ⌜ r ≡ length (benchOutput (now (input .entry))) ⌝ }
+    ensures buffer { λ _. ⌜ now (text .exit) ≡ laidOver (benchOutput (now (input .entry))) (now (text .entry)) ⌝ }
+{
+    let mut report = [0u8; 8200];
+    let judging = judge_file(input, &mut report);
+    match judging {
+        Judging::Refused(refusal) => refusal_line(refusal, text),
+        Judging::Accepted(l, _) => print_lines(input, l, &report, text),
+    }
+}
