@@ -1,6 +1,6 @@
 //! That the crate and the header say of the archive what it is.
 
-use hogunlas_reference::{judge, machine, printout, reader};
+use hogunlas_reference::{judge, machine, printout, reader, Refusal};
 
 /// The names that the archive defines. Its first member is the index that linkers look them up in:
 /// behind the magic and a header of 60 bytes a count, as many offsets of 4 bytes, and the names.
@@ -50,5 +50,37 @@ fn the_limits_are_the_headers() {
     ] {
         let definition = format!("#define HOGUNLAS_{name} {limit} ");
         assert!(header.contains(&definition), "{definition}");
+    }
+}
+
+/// Each refusal stands in the header under the reimplementation's name and number.
+#[test]
+fn the_refusals_are_the_headers() {
+    let header = include_str!("../../include/hogunlas.h");
+    for (name, number) in [
+        ("BYTES_MISSING", Refusal::BYTES_MISSING),
+        ("VERSION", Refusal::VERSION),
+        ("COUNT", Refusal::COUNT),
+        ("SECTION_LENGTH", Refusal::SECTION_LENGTH),
+        ("BYTES_LEFT_OVER", Refusal::BYTES_LEFT_OVER),
+        ("RECORD", Refusal::RECORD),
+        ("INSTRUCTION", Refusal::INSTRUCTION),
+        ("NESTING", Refusal::NESTING),
+        ("ACCESS", Refusal::ACCESS),
+        ("TAKE_OF_HELD", Refusal::TAKE_OF_HELD),
+        ("GIVE_OF_NOT_HELD", Refusal::GIVE_OF_NOT_HELD),
+        ("SETS_DIFFER", Refusal::SETS_DIFFER),
+        ("BLOCK_IS_T", Refusal::BLOCK_IS_T),
+        ("LIST_TOO_LONG", Refusal::LIST_TOO_LONG),
+        ("THREAD_NUMBER", Refusal::THREAD_NUMBER),
+        ("BUFFER_TOO_SHORT", Refusal::BUFFER_TOO_SHORT),
+        ("NO_SUCH_LINE", Refusal::NO_SUCH_LINE),
+    ] {
+        let line = header
+            .lines()
+            .find(|line| line.contains(&format!("HOGUNLAS_{name} = ")));
+        let said = line.and_then(|line| line.split("= ").nth(1)).expect(name);
+        let digits = said.split(|c: char| !c.is_ascii_digit()).next();
+        assert_eq!(digits, Some(number.to_string().as_str()), "{name}");
     }
 }

@@ -1,7 +1,5 @@
 //! The program `bench` itself: standard input to standard output.
 
-mod common;
-
 use std::io::Write;
 use std::process::{Command, Stdio};
 

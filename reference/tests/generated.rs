@@ -64,6 +64,51 @@ fn judge_meets_every_refusal_and_keeps_its_buffer() {
     tally.assert_met((0..=13).chain([16]));
 }
 
+/// What stands where a refusal was found: numbers that are found at several kinds of places.
+fn site(file: &[u8], refusal: &Refusal) -> Option<&'static str> {
+    let at = refusal.detail as usize;
+    let found = match (refusal.number, file.get(at)) {
+        (Refusal::COUNT, Some(0)) => "no thread",
+        (Refusal::COUNT, _) if at == 1 => "too many locks",
+        (Refusal::COUNT, _) => "too many threads",
+        (Refusal::SECTION_LENGTH, _) if at == 3 => "variables' length",
+        (Refusal::SECTION_LENGTH, _) => "code's length",
+        (Refusal::NESTING, _) if is_section_end(file, at) => "entry open at the code's end",
+        (Refusal::NESTING, Some(0x30..=0x35)) => "nesting at an opener or closer",
+        (Refusal::NESTING, _) => "nesting at another instruction",
+        (Refusal::SETS_DIFFER, _) if is_section_end(file, at) => "sets at the code's end",
+        (Refusal::SETS_DIFFER, Some(0x33)) => "sets at AGAIN",
+        (Refusal::SETS_DIFFER, _) => "sets at END",
+        _ => return None,
+    };
+    Some(found)
+}
+
+/// Whether a code section of a file whose lengths are right ends there.
+fn is_section_end(file: &[u8], at: usize) -> bool {
+    let length = |field: usize| usize::from(file[field]) * 256 + usize::from(file[field + 1]);
+    let mut field = 5 + length(3);
+    while field < at {
+        field += 2 + length(field);
+    }
+    field == at
+}
+
+#[test]
+fn refusals_are_met_wherever_they_can_be_found() {
+    let mut sites = BTreeMap::<&str, u32>::new();
+    for seed in 0..FILES {
+        let file = generate::file(&mut Rng::new(seed));
+        if let Err(refusal) = judge(&file, &mut [0; 8200]) {
+            if let Some(site) = site(&file, &refusal) {
+                *sites.entry(site).or_default() += 1;
+            }
+        }
+    }
+    assert_eq!(sites.len(), 11, "{sites:?}");
+    assert!(sites.values().all(|&met| met >= 3), "{sites:?}");
+}
+
 #[test]
 fn a_refusals_offset_lies_within_the_file() {
     for seed in 0..FILES {
@@ -223,7 +268,7 @@ fn describe(program: &Program, instruction: Instruction) -> &'static str {
 }
 
 #[test]
-fn lists_of_every_length_are_made() {
+fn the_empty_the_longest_and_a_longer_list_are_made() {
     let rng = &mut Rng::new(1);
     let lengths: Vec<usize> = (0..2_000).map(|_| generate::list(rng, 3).len()).collect();
     for length in [0, 65_536, 65_537] {
