@@ -38,7 +38,7 @@ fromHere l variables locks = record { counts = record { moved = 0; waiting = 0; 
 abbrev pub ranIn : Layout → Ran → (variables locks : List ℕ) → Run
 ranIn l r variables locks = record { counts = countsOf (r .counts); state = stateIn l variables locks (r .threads) }
 
--- a thread's code lies in the file from its start on, is short, and each instruction is valid; it is well nested
+-- a thread's code lies in the file from its start on, is short and well nested, and each of its instructions is valid
 pub record Located (s : List ℕ) (l : Layout) (start size t : ℕ) : Type 0 where
   pub code : codeOf (programOf s l) t ≡ instructionsAt (l .locks) (l .variables) s size start
   pub inside : start + 4 * size ≤ length s
