@@ -4,6 +4,7 @@
 --     Field        fields, cursor, sections
 --     Variable     variable records
 --     Instruction  the table of op codes
+--     Access       the access to shared things that an instruction makes
 --     Nesting      entries and named places
 --     Layout       the whole file, front to back, and its contents
 --     Code         structured code
@@ -16,6 +17,7 @@ pub mod Choice
 pub mod Field
 pub mod Variable
 pub mod Instruction
+pub mod Access
 pub mod Nesting
 pub mod Layout
 pub mod Code
