@@ -9,6 +9,7 @@
 --     Layout       the whole file, front to back, and its contents
 --     Code         structured code
 -- and what only proofs and inner functions use:
+--     Row          the rows of the table of op codes by their numbers
 --     WellFormed   trees that code is the flat writing of, and their depth
 --     Stack        the open entries as the code holds them
 --     Sound        what a sound file is known to hold
@@ -21,6 +22,7 @@ pub mod Access
 pub mod Nesting
 pub mod Layout
 pub mod Code
+pub mod Row
 pub mod WellFormed
 pub mod Stack
 pub mod Sound

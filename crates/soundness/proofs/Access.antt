@@ -26,29 +26,29 @@ unheld false x r e = cc
 fine-injective : {A : Type 0} {x y : A} → fine x ≡ fine y → x ≡ y
 fine-injective e = cc
 
+access-permitted : (p : Program) (t d : ℕ) (x : Access) (s : LockSet) {s′ : LockSet} → lockSetAfter p t d x s ≡ fine s′ → Permitted p t s x
+unfolding lockSetAfter
+access-permitted p t d none s e = none-permitted
+access-permitted p t d (reads v) s e = read-permitted (held (permits (kindAt p v) t s false) s _ e .0)
+access-permitted p t d (writes v a) s e = write-permitted (held (permits (kindAt p v) t s true) s _ e .0)
+access-permitted p t d (takes k) s e = take-permitted
+access-permitted p t d (gives k) s e = give-permitted (held (holds s k) (withoutLock s k) _ e .0)
+
+access-set : (p : Program) (t d : ℕ) (x : Access) (s : LockSet) {s′ : LockSet} → lockSetAfter p t d x s ≡ fine s′ → setAfter x s ≡ s′
+unfolding lockSetAfter setAfter
+access-set p t d none s e = fine-injective e
+access-set p t d (reads v) s e = held (permits (kindAt p v) t s false) s _ e .1
+access-set p t d (writes v a) s e = held (permits (kindAt p v) t s true) s _ e .1
+access-set p t d (takes k) s e = unheld (holds s k) (withLock s k) _ e
+access-set p t d (gives k) s e = held (holds s k) (withoutLock s k) _ e .1
+
 module _ {p : Program} {t : ℕ} {s s′ : LockSet} where
-  access-permitted : (x : Access) (d : ℕ) → lockSetAfter p t d x s ≡ fine s′ → Permitted p t s x
-  unfolding lockSetAfter
-  access-permitted none d e = none-permitted
-  access-permitted (reads v) d e = read-permitted (held (permits (kindAt p v) t s false) s _ e .0)
-  access-permitted (writes v a) d e = write-permitted (held (permits (kindAt p v) t s true) s _ e .0)
-  access-permitted (takes k) d e = take-permitted
-  access-permitted (gives k) d e = give-permitted (held (holds s k) (withoutLock s k) _ e .0)
-
-  access-set : (x : Access) (d : ℕ) → lockSetAfter p t d x s ≡ fine s′ → setAfter x s ≡ s′
-  unfolding lockSetAfter setAfter
-  access-set none d e = fine-injective e
-  access-set (reads v) d e = held (permits (kindAt p v) t s false) s _ e .1
-  access-set (writes v a) d e = held (permits (kindAt p v) t s true) s _ e .1
-  access-set (takes k) d e = unheld (holds s k) (withLock s k) _ e
-  access-set (gives k) d e = held (holds s k) (withoutLock s k) _ e .1
-
   -- a legal instruction makes a permitted access
   pub legal-permitted : (i : Instruction) → Legal p t i s s′ → Permitted p t s (accessOf i)
   unfolding locksAfter
-  legal-permitted i l = access-permitted (accessOf i) (l .offset) (l .judged)
+  legal-permitted i l = access-permitted p t (l .offset) (accessOf i) s (l .judged)
 
   -- and leads to the lock set behind its access
   pub legal-set : (i : Instruction) → Legal p t i s s′ → setAfter (accessOf i) s ≡ s′
   unfolding locksAfter
-  legal-set i l = access-set (accessOf i) (l .offset) (l .judged)
+  legal-set i l = access-set p t (l .offset) (accessOf i) s (l .judged)
