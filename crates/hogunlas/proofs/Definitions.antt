@@ -8,11 +8,12 @@ use Rattle.program.specs.Nesting.{named, unnamed, opening, passing, atElse, atA
 use Rattle.program.specs.Layout.{instructionsAt, variablesAt, threadsAt, programOf, variableSection, codeSection, codeSections, fields, reading}
 use Rattle.program.specs.Code.{size, elseDistance, structure, structured}
 use Rattle.judge.specs.LockSet.{empty, holds, withLock, withoutLock, sameFlags, same}
-use Rattle.judge.specs.Discipline.{kindAt, permits, locksAfter, accessAtomicity, atomicityOf}
+use Rattle.judge.specs.Discipline.{kindAt, permits, lockSetAfter, locksAfter, accessAtomicity, accessMover, atomicityOf}
 use Rattle.judge.specs.Judging.{isTop, judge, judgeThread, judgeThreads, judgeProgram}
 use Rattle.judge.specs.Acceptance.{sound, accept}
 use Rattle.machine.specs.State.{fresh, start, codeOf, threadOf, pairBytes, wordBytes, each, threadBytes, stateBytes}
-use Rattle.machine.specs.Step.{accessOf, waits, valueRead, variablesAfter, locksAfter as machine-locksAfter, registersAfter, branch, placeAfter, threadAfter, instructionOf, moveBy, outcome, step}
+use Rattle.program.specs.Access.{accessOf}
+use Rattle.machine.specs.Step.{waits, valueRead, variablesAfter, locksAfter as machine-locksAfter, registersAfter, branch, placeAfter, threadAfter, instructionOf, moveBy, outcome, step}
 use Rattle.machine.specs.Run.{runFrom, run}
 use Rattle.machine.specs.Block.{covers, coveredFrom, inside}
 use Rattle.printout.specs.Text.{ascii, hexDigit, hex, hexes, digits, decimal, spaced, lineOf}
@@ -21,5 +22,5 @@ use Rattle.hogunlas.specs.Calls.{laidOver, judgeAnswer, judgeBuffer, sta
 use Rattle.hogunlas.specs.Cases.{reportOf, ranOf}
 
 unfoldable pub definitions : Unit {0}
-unfolding composition join firstBad present byteField pairField section recorded recordAt variableAt decode decodeAt formOf named unnamed opening passing atElse atAgain atEnd nest atCodeEnd firstBroken instructionsAt variablesAt threadsAt programOf variableSection codeSection codeSections fields reading size elseDistance structure structured empty holds withLock withoutLock sameFlags same kindAt permits locksAfter accessAtomicity atomicityOf isTop judge judgeThread judgeThreads judgeProgram sound accept fresh start codeOf threadOf pairBytes wordBytes each threadBytes stateBytes accessOf waits valueRead variablesAfter machine-locksAfter registersAfter branch placeAfter threadAfter instructionOf moveBy outcome step runFrom run covers coveredFrom inside ascii hexDigit hex hexes digits decimal spaced lineOf raw numbered letter headLine kindWords variableLine variableLines instructionWords instructionLine codeLines threadLines wholeLines lines refusalLine laidOver judgeAnswer judgeBuffer stateSize runAnswer runBuffer lineAnswer lineBuffer joined benchOutput reportOf ranOf
+unfolding composition join firstBad present byteField pairField section recorded recordAt variableAt decode decodeAt formOf named unnamed opening passing atElse atAgain atEnd nest atCodeEnd firstBroken instructionsAt variablesAt threadsAt programOf variableSection codeSection codeSections fields reading size elseDistance structure structured empty holds withLock withoutLock sameFlags same kindAt permits lockSetAfter locksAfter accessAtomicity accessMover atomicityOf isTop judge judgeThread judgeThreads judgeProgram sound accept fresh start codeOf threadOf pairBytes wordBytes each threadBytes stateBytes accessOf waits valueRead variablesAfter machine-locksAfter registersAfter branch placeAfter threadAfter instructionOf moveBy outcome step runFrom run covers coveredFrom inside ascii hexDigit hex hexes digits decimal spaced lineOf raw numbered letter headLine kindWords variableLine variableLines instructionWords instructionLine codeLines threadLines wholeLines lines refusalLine laidOver judgeAnswer judgeBuffer stateSize runAnswer runBuffer lineAnswer lineBuffer joined benchOutput reportOf ranOf
 definitions = tt

@@ -19,14 +19,14 @@ use lib.Dec.{eqb}
 use Rattle.atomicity.specs.Atomicity.{reportByte}
 use Rattle.atomicity.specs.declared.Atomicity.{Atomicity}
 use Rattle.atomicity.specs.declared.Atomicity.the-variants as atomicity
+use Rattle.program.specs.Access.{Access, none, reads, writes, takes, gives, accessOf}
 use Rattle.program.specs.Choice.{Answer, fine, refused, choose, require, _>>=_}
 use Rattle.program.specs.Code.{Code, done, plain, choice, loop, block, size}
 use Rattle.program.specs.Layout.{Program}
 use Rattle.program.specs.WellFormed.{WellFormed}
 use Rattle.program.specs.declared.instruction.Instruction.{Instruction}
-use Rattle.program.specs.declared.instruction.Instruction.the-variants.{Set, Copy, Add, Sub, Less, Read, Write, Take, Give, If, Else, While, Again, Atomic, End}
 use Rattle.program.specs.declared.refusal.Refusal.{Refusal}
-use Rattle.judge.specs.Discipline.{permits, kindAt, locksAfter}
+use Rattle.judge.specs.Discipline.{permits, kindAt, lockSetAfter, locksAfter}
 use Rattle.judge.specs.Judging.{Judged, isTop, judge}
 use Rattle.judge.specs.LockSet.{holds, same}
 use Rattle.judge.specs.Rules.{Typed, typed-done, typed-plain, typed-choice, typed-loop, typed-block, report}
@@ -86,24 +86,19 @@ kept-else false x r q e = e
 
 module _ (p : Program) (t : ℕ) where
   -- the lock discipline asks for no offset
+  access-anywhere : (x : Access) (d d′ : ℕ) (s : LockSet) {s′ : LockSet} → lockSetAfter p t d x s ≡ fine s′
+      → lockSetAfter p t d′ x s ≡ fine s′
+  unfolding lockSetAfter
+  access-anywhere none d d′ s e = e
+  access-anywhere (reads v) d d′ s e = kept (permits (kindAt p v) t s false) _ _ _ e
+  access-anywhere (writes v a) d d′ s e = kept (permits (kindAt p v) t s true) _ _ _ e
+  access-anywhere (takes k) d d′ s e = kept-else (holds s k) _ _ _ e
+  access-anywhere (gives k) d d′ s e = kept (holds s k) _ _ _ e
+
   pub locks-anywhere : (i : Instruction) (d d′ : ℕ) (s : LockSet) {s′ : LockSet} → locksAfter p t d i s ≡ fine s′
       → locksAfter p t d′ i s ≡ fine s′
   unfolding locksAfter
-  locks-anywhere (Set a n) d d′ s e = e
-  locks-anywhere (Copy a b) d d′ s e = e
-  locks-anywhere (Add a b c) d d′ s e = e
-  locks-anywhere (Sub a b c) d d′ s e = e
-  locks-anywhere (Less a b c) d d′ s e = e
-  locks-anywhere (Read a v) d d′ s e = kept (permits (kindAt p v) t s false) _ _ _ e
-  locks-anywhere (Write a v) d d′ s e = kept (permits (kindAt p v) t s true) _ _ _ e
-  locks-anywhere (Take k) d d′ s e = kept-else (holds s k) _ _ _ e
-  locks-anywhere (Give k) d d′ s e = kept (holds s k) _ _ _ e
-  locks-anywhere (If a n) d d′ s e = e
-  locks-anywhere (Else n) d d′ s e = e
-  locks-anywhere (While a n) d d′ s e = e
-  locks-anywhere (Again n) d d′ s e = e
-  locks-anywhere (Atomic n) d d′ s e = e
-  locks-anywhere End d d′ s e = e
+  locks-anywhere i = access-anywhere (accessOf i)
 
   -- ---- from judging to a derivation
 

@@ -6,12 +6,12 @@ use lib.ListN.{getD}
 use lib.Dec.{eqb}
 use Rattle.atomicity.specs.declared.Atomicity.{Atomicity}
 use Rattle.atomicity.specs.declared.Atomicity.the-variants as atomicity
+use Rattle.program.specs.Access.{Access, none, reads, writes, takes, gives, accessOf}
 use Rattle.program.specs.Choice.{Answer, fine, refused, choose}
 use Rattle.program.specs.Layout.{Program}
 use Rattle.program.specs.Variable.{Variable}
 use Rattle.program.specs.declared.instruction.Instruction.{Instruction}
-use Rattle.program.specs.declared.instruction.Instruction.the-variants.{Set, Copy, Add, Sub, Less, Read, Write, Take, Give, If, Else, While, Again, Atomic, End}
-use Rattle.program.specs.declared.refusal.Refusal.the-variants.{Access, Taken, NotTaken}
+use Rattle.program.specs.declared.refusal.Refusal.the-variants as refusal
 use Rattle.program.specs.declared.variable.Kind.{Kind}
 use Rattle.program.specs.declared.variable.Kind.the-variants.{Guarded, Own, Fixed, Open}
 use Rattle.judge.specs.LockSet.{holds, withLock, withoutLock}
@@ -23,33 +23,26 @@ kindAt p v = getD (p .variables) v (record { kind = Open; initial = 0 }) .kind
 
 -- "A guarded variable is read or written only with its lock in the set; an own one only by its thread; a fixed one is never written;
 -- an open one freely"
-unfoldable pub permits : Kind → (thread : ℕ) → LockSet → (writes : Bool) → Bool
-permits (Guarded g) t s writes = holds s g
-permits (Own g) t s writes = eqb g t
-permits Fixed t s writes = not writes
-permits Open t s writes = true
+unfoldable pub permits : Kind → (thread : ℕ) → LockSet → (isWrite : Bool) → Bool
+permits (Guarded g) t s isWrite = holds s g
+permits (Own g) t s isWrite = eqb g t
+permits Fixed t s isWrite = not isWrite
+permits Open t s isWrite = true
 
--- the lock set after an instruction at file offset d, or what it offends
+-- the lock set after an access at file offset d, or what it offends. "TAKE adds its lock, GIVE takes it out"
+unfoldable pub lockSetAfter : Program → (thread d : ℕ) → Access → LockSet → Answer LockSet
+lockSetAfter p t d none s = fine s
+lockSetAfter p t d (reads v) s = choose (permits (kindAt p v) t s false) (fine s) (refused (refusal.Access d))
+lockSetAfter p t d (writes v a) s = choose (permits (kindAt p v) t s true) (fine s) (refused (refusal.Access d))
+lockSetAfter p t d (takes k) s = choose (holds s k) (refused (refusal.Taken d)) (fine (withLock s k))
+lockSetAfter p t d (gives k) s = choose (holds s k) (fine (withoutLock s k)) (refused (refusal.NotTaken d))
+
 unfoldable pub locksAfter : Program → (thread d : ℕ) → Instruction → LockSet → Answer LockSet
-locksAfter p t d (Set a n) s = fine s
-locksAfter p t d (Copy a b) s = fine s
-locksAfter p t d (Add a b c) s = fine s
-locksAfter p t d (Sub a b c) s = fine s
-locksAfter p t d (Less a b c) s = fine s
-locksAfter p t d (Read a v) s = choose (permits (kindAt p v) t s false) (fine s) (refused (Access d))
-locksAfter p t d (Write a v) s = choose (permits (kindAt p v) t s true) (fine s) (refused (Access d))
-locksAfter p t d (Take k) s = choose (holds s k) (refused (Taken d)) (fine (withLock s k))
-locksAfter p t d (Give k) s = choose (holds s k) (fine (withoutLock s k)) (refused (NotTaken d))
-locksAfter p t d (If a n) s = fine s
-locksAfter p t d (Else n) s = fine s
-locksAfter p t d (While a n) s = fine s
-locksAfter p t d (Again n) s = fine s
-locksAfter p t d (Atomic n) s = fine s
-locksAfter p t d End s = fine s
+locksAfter p t d i s = lockSetAfter p t d (accessOf i) s
 
 -- "READ and WRITE of an open variable are A". The thread is for rules that look at the other threads' code
-unfoldable pub accessAtomicity : Program → (thread v : ℕ) → (writes : Bool) → Atomicity
-accessAtomicity p t v writes = elim (kindAt p v) [
+unfoldable pub accessAtomicity : Program → (thread v : ℕ) → (isWrite : Bool) → Atomicity
+accessAtomicity p t v isWrite = elim (kindAt p v) [
   | Guarded g ↦ atomicity.Both
   | Own g ↦ atomicity.Both
   | Fixed ↦ atomicity.Both
@@ -57,19 +50,12 @@ accessAtomicity p t v writes = elim (kindAt p v) [
 ]
 
 -- "TAKE is R, GIVE is L, .. every other plain instruction is B"
+unfoldable pub accessMover : Program → (thread : ℕ) → Access → Atomicity
+accessMover p t none = atomicity.Both
+accessMover p t (reads v) = accessAtomicity p t v false
+accessMover p t (writes v a) = accessAtomicity p t v true
+accessMover p t (takes k) = atomicity.Right
+accessMover p t (gives k) = atomicity.Left
+
 unfoldable pub atomicityOf : Program → (thread : ℕ) → Instruction → Atomicity
-atomicityOf p t (Set a n) = atomicity.Both
-atomicityOf p t (Copy a b) = atomicity.Both
-atomicityOf p t (Add a b c) = atomicity.Both
-atomicityOf p t (Sub a b c) = atomicity.Both
-atomicityOf p t (Less a b c) = atomicity.Both
-atomicityOf p t (Read a v) = accessAtomicity p t v false
-atomicityOf p t (Write a v) = accessAtomicity p t v true
-atomicityOf p t (Take k) = atomicity.Right
-atomicityOf p t (Give k) = atomicity.Left
-atomicityOf p t (If a n) = atomicity.Both
-atomicityOf p t (Else n) = atomicity.Both
-atomicityOf p t (While a n) = atomicity.Both
-atomicityOf p t (Again n) = atomicity.Both
-atomicityOf p t (Atomic n) = atomicity.Both
-atomicityOf p t End = atomicity.Both
+atomicityOf p t i = accessMover p t (accessOf i)

@@ -19,7 +19,8 @@ use Rattle.program.specs.declared.instruction.Instruction.{Instruction}
 use Rattle.program.specs.declared.instruction.Instruction.the-variants.{Set, Copy, Add, Sub, Less, Read, Write, Take, Give, If, Else, While, Again, Atomic, End}
 use Rattle.program.specs.declared.instruction.Form.the-variants as form
 use Rattle.program.proofs.Jumps.{jump-if, jump-else, jump-while}
-use Rattle.machine.specs.Step.{Access, none, reads, writes, takes, gives, accessOf, placeAfter, branch, reg}
+use Rattle.program.specs.Access.{Access, none, reads, writes, takes, gives, accessOf}
+use Rattle.machine.specs.Step.{placeAfter, branch, reg}
 
 -- the locks and variables of an access lie below these counts
 abbrev pub AccessBelow : (locks variables : ℕ) → Access → Type 0

@@ -23,7 +23,8 @@ use Rattle.program.specs.declared.instruction.Instruction.the-variants.{Set, Co
 use Rattle.program.proofs.Contents.{length-instructions, getD-instructions}
 use Rattle.program.proofs.Decode.{instruction-fields}
 use Rattle.machine.specs.State.{fresh, codeOf, threadOf}
-use Rattle.machine.specs.Step.{Access, none, reads, writes, takes, gives, accessOf, waits, valueRead, variablesAfter, locksAfter, placeAfter, registersAfter, threadAfter, instructionOf, moveBy}
+use Rattle.program.specs.Access.{Access, none, reads, writes, takes, gives, accessOf}
+use Rattle.machine.specs.Step.{waits, valueRead, variablesAfter, locksAfter, placeAfter, registersAfter, threadAfter, instructionOf, moveBy}
 use Rattle.machine.specs.Run.{runFrom}
 use Rattle.machine.specs.Kept.{stateIn, Prepared, nobody, EightRegisters, Kept}
 use Rattle.machine.specs.Reached.{shared, locksLeft}

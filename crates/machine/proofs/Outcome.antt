@@ -12,7 +12,8 @@ use lib.ListN.{length}
 use borrow.Author.Tests.{eq-eqb, ne-eqb}
 use Rattle.program.specs.Layout.{Program}
 use Rattle.machine.specs.State.{codeOf, threadOf}
-use Rattle.machine.specs.Step.{accessOf, waits, instructionOf, moveBy, outcome, step}
+use Rattle.program.specs.Access.{accessOf}
+use Rattle.machine.specs.Step.{waits, instructionOf, moveBy, outcome, step}
 use Rattle.machine.specs.Run.{Run, Counts, counted, runFrom, run}
 use Rattle.machine.specs.declared.thread.Outcome.{Outcome}
 use Rattle.machine.specs.declared.thread.Outcome.the-variants.{Moved, Waiting, Idle}

@@ -18,7 +18,8 @@ use Rattle.program.specs.declared.instruction.Instruction.{Instruction}
 use Rattle.program.specs.declared.layout.Layout.{Layout}
 use Rattle.program.proofs.Contents.{length-variables, length-threads}
 use Rattle.machine.specs.State.{State, start, fresh, threadOf, threadBytes, stateBytes}
-use Rattle.machine.specs.Step.{accessOf, valueRead, threadAfter, instructionOf, moveBy, outcome, after, step}
+use Rattle.program.specs.Access.{accessOf}
+use Rattle.machine.specs.Step.{valueRead, threadAfter, instructionOf, moveBy, outcome, after, step}
 use Rattle.machine.specs.Run.{Run, run, runFrom}
 use Rattle.machine.specs.declared.thread.Outcome.{Outcome}
 use Rattle.machine.specs.declared.thread.Outcome.the-variants.{Moved, Waiting, Idle}

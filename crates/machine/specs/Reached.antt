@@ -2,7 +2,8 @@
 use Prim.Native.Nat.{ℕ}
 use mathlib.Core.List.{List}
 use Rattle.program.specs.Choice.{choose}
-use Rattle.machine.specs.Step.{Access, waits, valueRead, locksAfter}
+use Rattle.program.specs.Access.{Access}
+use Rattle.machine.specs.Step.{waits, valueRead, locksAfter}
 use Rattle.machine.specs.declared.entry.Shared.{Shared}
 use Rattle.machine.specs.declared.entry.Shared.the-variants.{Waits, Made}
 

@@ -4,6 +4,7 @@ use mathlib.Core.Bool.{Bool, true, false, not}
 use mathlib.Core.List.{List}
 use lib.ListN.{length, getD, set}
 use lib.Dec.{ltb, eqb}
+use Rattle.program.specs.Access.{Access, none, reads, writes, takes, gives, accessOf}
 use Rattle.program.specs.Choice.{choose}
 use Rattle.program.specs.Layout.{Program}
 use Rattle.program.specs.declared.instruction.Instruction.{Instruction}
@@ -13,30 +14,7 @@ use Rattle.machine.specs.declared.thread.Outcome.{Outcome}
 use Rattle.machine.specs.declared.thread.Outcome.the-variants.{Moved, Waiting, Idle}
 use Rattle.machine.specs.declared.thread.Thread.{Thread}
 
--- The shared access that an instruction makes
-
-pub data Access : Type 0 where
-  none : Access
-  reads : (v : ℕ) → Access
-  writes : (v a : ℕ) → Access
-  takes gives : (k : ℕ) → Access
-
-unfoldable pub accessOf : Instruction → Access
-accessOf (Set a n) = none
-accessOf (Copy a b) = none
-accessOf (Add a b c) = none
-accessOf (Sub a b c) = none
-accessOf (Less a b c) = none
-accessOf (Read a v) = reads v
-accessOf (Write a v) = writes v a
-accessOf (Take k) = takes k
-accessOf (Give k) = gives k
-accessOf (If a n) = none
-accessOf (Else n) = none
-accessOf (While a n) = none
-accessOf (Again n) = none
-accessOf (Atomic n) = none
-accessOf End = none
+-- What the shared access does
 
 -- "TAKE of a lock that is not free"
 unfoldable pub waits : Access → List ℕ → Bool

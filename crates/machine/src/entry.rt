@@ -6,7 +6,8 @@ ghost use Prim.Native.Nat.{_<_};
 ghost use Rattle.machine.specs.Reached.{shared, locksLeft};
 ghost use Rattle.program.specs.Sound.{FieldsGood};
 ghost use mathlib.Core.List.{[]};
-ghost use Rattle.machine.specs.Step.{accessOf, takes, variablesAfter};
+ghost use Rattle.program.specs.Access.{accessOf, takes};
+ghost use Rattle.machine.specs.Step.{variablesAfter};
 
 // What the access finds.
 pub enum Shared {

@@ -1,16 +1,17 @@
 -- What a decoded instruction's fields satisfy. Assumes nothing.
 --     decode-fields        of valid bytes
 --     instruction-fields   of the instruction at any offset, valid or not
---     valid-row, last-row  the instruction that an op code says where its fields are right
+--     row-numbered         of valid bytes the instruction is its row's, found by its number
 use Prim.Native.Nat.{ℕ, _+_, _*_, _<_}
-use mathlib.Core.Path.{_≡_, refl, subst}
+use mathlib.Core.Path.{_≡_, refl, sym, ap, _∙_, subst}
 use mathlib.Core.Bool.{Bool, true, false, _&&_, and-eq-true-iff}
 use mathlib.Core.List.{List}
 use lib.Dec.{ltb, eqb}
-use borrow.Author.Tests.{ltb-true}
+use borrow.Author.Tests.{ltb-true, eqb-true}
 use Rattle.program.specs.Choice.{choose}
 use Rattle.program.specs.Field.{byteAt}
 use Rattle.program.specs.Instruction.{decode, decodeAt, instructionOf, isRegister, isZero, isValid}
+use Rattle.program.specs.Row.{rowNumber, rowInstruction}
 use Rattle.program.specs.Sound.{FieldsGood}
 use Rattle.program.specs.declared.instruction.Instruction.{Instruction}
 use Rattle.program.specs.declared.instruction.Instruction.the-variants.{Set, Copy, Add, Sub, Less, Read, Write, Take, Give, If, Else, While, Again, Atomic, End}
@@ -46,8 +47,8 @@ IfValid P Invalid = Unit
 
 -- one row of the table above the rest of it
 row-good : (P : Instruction → Type 0) (here fields : Bool) (i : Instruction) (rest : Decoded)
-    → (fields ≡ true → P i) → IfValid P rest → IfValid P (choose here (choose fields (Valid i) Invalid) rest)
-row-good P true true i rest good h = good refl
+    → (here ≡ true → fields ≡ true → P i) → IfValid P rest → IfValid P (choose here (choose fields (Valid i) Invalid) rest)
+row-good P true true i rest good h = good refl refl
 row-good P true false i rest good h = tt
 row-good P false fields i rest good h = h
 
@@ -57,21 +58,21 @@ unfolding decode
 decoded-good locks variables op a b c =
     let P = FieldsGood locks variables in
     let n = b * 256 + c in
-    row-good P (eqb op 0x01) (isRegister a) (Set a n) _ (ltb-true a 8)
-    (row-good P (eqb op 0x02) (isRegister a && isRegister b && isZero c) (Copy a b) _ (two-below 8 a b c)
-    (row-good P (eqb op 0x03) (isRegister a && isRegister b && isRegister c) (Add a b c) _ (three-registers a b c)
-    (row-good P (eqb op 0x04) (isRegister a && isRegister b && isRegister c) (Sub a b c) _ (three-registers a b c)
-    (row-good P (eqb op 0x05) (isRegister a && isRegister b && isRegister c) (Less a b c) _ (three-registers a b c)
-    (row-good P (eqb op 0x10) (isRegister a && ltb b variables && isZero c) (Read a b) _ (two-below variables a b c)
-    (row-good P (eqb op 0x11) (isRegister a && ltb b variables && isZero c) (Write a b) _ (two-below variables a b c)
-    (row-good P (eqb op 0x20) (ltb a locks && isZero b && isZero c) (Take a) _ (one-below locks a b c)
-    (row-good P (eqb op 0x21) (ltb a locks && isZero b && isZero c) (Give a) _ (one-below locks a b c)
-    (row-good P (eqb op 0x30) (isRegister a) (If a n) _ (ltb-true a 8)
-    (row-good P (eqb op 0x31) (isZero a) (Else n) _ (λ _. tt)
-    (row-good P (eqb op 0x32) (isRegister a) (While a n) _ (ltb-true a 8)
-    (row-good P (eqb op 0x33) (isZero a) (Again n) _ (λ _. tt)
-    (row-good P (eqb op 0x34) (isZero a) (Atomic n) _ (λ _. tt)
-    (row-good P (eqb op 0x35) (isZero a && isZero b && isZero c) End _ (λ _. tt)
+    row-good P (eqb op 0x01) (isRegister a) (Set a n) _ (λ _. ltb-true a 8)
+    (row-good P (eqb op 0x02) (isRegister a && isRegister b && isZero c) (Copy a b) _ (λ _. two-below 8 a b c)
+    (row-good P (eqb op 0x03) (isRegister a && isRegister b && isRegister c) (Add a b c) _ (λ _. three-registers a b c)
+    (row-good P (eqb op 0x04) (isRegister a && isRegister b && isRegister c) (Sub a b c) _ (λ _. three-registers a b c)
+    (row-good P (eqb op 0x05) (isRegister a && isRegister b && isRegister c) (Less a b c) _ (λ _. three-registers a b c)
+    (row-good P (eqb op 0x10) (isRegister a && ltb b variables && isZero c) (Read a b) _ (λ _. two-below variables a b c)
+    (row-good P (eqb op 0x11) (isRegister a && ltb b variables && isZero c) (Write a b) _ (λ _. two-below variables a b c)
+    (row-good P (eqb op 0x20) (ltb a locks && isZero b && isZero c) (Take a) _ (λ _. one-below locks a b c)
+    (row-good P (eqb op 0x21) (ltb a locks && isZero b && isZero c) (Give a) _ (λ _. one-below locks a b c)
+    (row-good P (eqb op 0x30) (isRegister a) (If a n) _ (λ _. ltb-true a 8)
+    (row-good P (eqb op 0x31) (isZero a) (Else n) _ (λ _ _. tt)
+    (row-good P (eqb op 0x32) (isRegister a) (While a n) _ (λ _. ltb-true a 8)
+    (row-good P (eqb op 0x33) (isZero a) (Again n) _ (λ _ _. tt)
+    (row-good P (eqb op 0x34) (isZero a) (Atomic n) _ (λ _ _. tt)
+    (row-good P (eqb op 0x35) (isZero a && isZero b && isZero c) End _ (λ _ _. tt)
     tt))))))))))))))
 
 -- valid bytes: registers below 8, locks and variables below their counts
@@ -90,14 +91,41 @@ instruction-fields locks variables s at =
     instruction-of locks variables (decodeAt locks variables s at)
     (decoded-good locks variables (byteAt s at) (byteAt s (at + 1)) (byteAt s (at + 2)) (byteAt s (at + 3)))
 
--- of a row whose fields are right its instruction is decoded
-pub valid-row : (fields : Bool) (i : Instruction) → isValid (choose fields (Valid i) Invalid) ≡ true
-    → i ≡ instructionOf (choose fields (Valid i) Invalid)
-valid-row true i e = refl
-valid-row false i e = cc
+-- the row of an op code is found by its number
+numbered-as : (op a b c code : ℕ) (i : Instruction) → eqb op code ≡ true → i ≡ rowInstruction (rowNumber code) a b c
+    → i ≡ rowInstruction (rowNumber op) a b c
+numbered-as op a b c code i e q = subst (λ (k : ℕ). i ≡ rowInstruction (rowNumber k) a b c) (sym (eqb-true op code e)) q
 
--- of END's row, the last, and of an unknown op code: END
-pub last-row : (here fields : Bool) → End ≡ instructionOf (choose here (choose fields (Valid End) Invalid) Invalid)
-last-row true true = refl
-last-row true false = refl
-last-row false fields = refl
+decoded-numbered : (locks variables op a b c : ℕ)
+    → IfValid (λ (i : Instruction). i ≡ rowInstruction (rowNumber op) a b c) (decode locks variables op a b c)
+unfolding decode rowNumber rowInstruction
+decoded-numbered locks variables op a b c =
+    let P : Instruction → Type 0 = λ (i : Instruction). i ≡ rowInstruction (rowNumber op) a b c in
+    let n = b * 256 + c in
+    row-good P (eqb op 0x01) (isRegister a) (Set a n) _ (λ e _. numbered-as op a b c 0x01 (Set a n) e refl)
+    (row-good P (eqb op 0x02) (isRegister a && isRegister b && isZero c) (Copy a b) _ (λ e _. numbered-as op a b c 0x02 (Copy a b) e refl)
+    (row-good P (eqb op 0x03) (isRegister a && isRegister b && isRegister c) (Add a b c) _ (λ e _. numbered-as op a b c 0x03 (Add a b c) e refl)
+    (row-good P (eqb op 0x04) (isRegister a && isRegister b && isRegister c) (Sub a b c) _ (λ e _. numbered-as op a b c 0x04 (Sub a b c) e refl)
+    (row-good P (eqb op 0x05) (isRegister a && isRegister b && isRegister c) (Less a b c) _ (λ e _. numbered-as op a b c 0x05 (Less a b c) e refl)
+    (row-good P (eqb op 0x10) (isRegister a && ltb b variables && isZero c) (Read a b) _ (λ e _. numbered-as op a b c 0x10 (Read a b) e refl)
+    (row-good P (eqb op 0x11) (isRegister a && ltb b variables && isZero c) (Write a b) _ (λ e _. numbered-as op a b c 0x11 (Write a b) e refl)
+    (row-good P (eqb op 0x20) (ltb a locks && isZero b && isZero c) (Take a) _ (λ e _. numbered-as op a b c 0x20 (Take a) e refl)
+    (row-good P (eqb op 0x21) (ltb a locks && isZero b && isZero c) (Give a) _ (λ e _. numbered-as op a b c 0x21 (Give a) e refl)
+    (row-good P (eqb op 0x30) (isRegister a) (If a n) _ (λ e _. numbered-as op a b c 0x30 (If a n) e refl)
+    (row-good P (eqb op 0x31) (isZero a) (Else n) _ (λ e _. numbered-as op a b c 0x31 (Else n) e refl)
+    (row-good P (eqb op 0x32) (isRegister a) (While a n) _ (λ e _. numbered-as op a b c 0x32 (While a n) e refl)
+    (row-good P (eqb op 0x33) (isZero a) (Again n) _ (λ e _. numbered-as op a b c 0x33 (Again n) e refl)
+    (row-good P (eqb op 0x34) (isZero a) (Atomic n) _ (λ e _. numbered-as op a b c 0x34 (Atomic n) e refl)
+    (row-good P (eqb op 0x35) (isZero a && isZero b && isZero c) End _ (λ e _. numbered-as op a b c 0x35 End e refl)
+    tt))))))))))))))
+
+valid-is : (d : Decoded) (j : Instruction) → IfValid (λ (i : Instruction). i ≡ j) d → isValid d ≡ true → j ≡ instructionOf d
+valid-is (Valid i) j h e = sym h
+valid-is Invalid j h e = cc
+
+-- so the number says the instruction of valid bytes
+pub row-numbered : (locks variables op a b c row : ℕ) → row ≡ rowNumber op → isValid (decode locks variables op a b c) ≡ true
+    → rowInstruction row a b c ≡ instructionOf (decode locks variables op a b c)
+row-numbered locks variables op a b c row e valid =
+    ap (λ (k : ℕ). rowInstruction k a b c) e
+    ∙ valid-is (decode locks variables op a b c) (rowInstruction (rowNumber op) a b c) (decoded-numbered locks variables op a b c) valid

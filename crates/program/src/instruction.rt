@@ -8,6 +8,7 @@ ghost use lib.Dec.{ltb};
 ghost use Rattle.program.specs.Choice.{choose, firstBad};
 ghost use Rattle.program.specs.Instruction.{isRegister, isZero, decodeAt, instructionOf, formOf};
 ghost use Rattle.program.specs.Instruction as Table;
+ghost use Rattle.program.specs.Row.{rowNumber};
 
 pub enum Instruction {
     Set(u8, u16),
@@ -128,26 +129,44 @@ pub fn instruction_at(s: &[u8], at: usize, locks: usize, variables: usize) -> In
     i
 }
 
+// The row of an op code in document 01's table, from 1 on: numbers without gaps make a `match` short enough for the compiler to put it
+// where it is used. Of a byte that is no op code it says nothing.
+fn row_number(op: u8) -> u8
+    ensures { λ r. ⌜ r ≡ rowNumber op ⌝ }
+{
+    if op < 0x10 {
+        return op;
+    }
+    if op < 0x20 {
+        return op - 10;
+    }
+    if op < 0x30 {
+        return op - 24;
+    }
+    op - 38
+}
+
 // What an op code and its fields say, where they are right: the op alone decides.
 pub fn valid_instruction(op: u8, a: u8, b: u8, c: u8) -> Instruction
     ensures { λ r. ⌜ ((locks variables : ℕ) → Table.isValid (Table.decode locks variables op a b c) ≡ true → r ≡ instructionOf (Table.decode locks variables op a b c)) ⌝ }
 {
     let n = (b as u16) * 256 + (c as u16);
-    match op {
-        0x01 => Instruction::Set(a, n),
-        0x02 => Instruction::Copy(a, b),
-        0x03 => Instruction::Add(a, b, c),
-        0x04 => Instruction::Sub(a, b, c),
-        0x05 => Instruction::Less(a, b, c),
-        0x10 => Instruction::Read(a, b),
-        0x11 => Instruction::Write(a, b),
-        0x20 => Instruction::Take(a),
-        0x21 => Instruction::Give(a),
-        0x30 => Instruction::If(a, n),
-        0x31 => Instruction::Else(n),
-        0x32 => Instruction::While(a, n),
-        0x33 => Instruction::Again(n),
-        0x34 => Instruction::Atomic(n),
+    let row = row_number(op);
+    match row {
+        1 => Instruction::Set(a, n),
+        2 => Instruction::Copy(a, b),
+        3 => Instruction::Add(a, b, c),
+        4 => Instruction::Sub(a, b, c),
+        5 => Instruction::Less(a, b, c),
+        6 => Instruction::Read(a, b),
+        7 => Instruction::Write(a, b),
+        8 => Instruction::Take(a),
+        9 => Instruction::Give(a),
+        10 => Instruction::If(a, n),
+        11 => Instruction::Else(n),
+        12 => Instruction::While(a, n),
+        13 => Instruction::Again(n),
+        14 => Instruction::Atomic(n),
         _ => Instruction::End,
     }
 }

@@ -10,7 +10,7 @@ use lib.ListN.{length, getD, List·getD-eq-default}
 use Rattle.judge.specs.Judging.{judge, judgeThread, judgeThreads, judgeProgram}
 use Rattle.judge.specs.LockSet.{empty}
 use Rattle.machine.specs.State.{codeOf}
-use Rattle.machine.specs.Step.{accessOf}
+use Rattle.program.specs.Access.{accessOf}
 use Rattle.program.proofs.Contents.{length-instructions, getD-instructions}
 use Rattle.program.proofs.Decode.{instruction-fields}
 use Rattle.program.proofs.Structure.{nested-flat}

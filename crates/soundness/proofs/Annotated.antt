@@ -12,7 +12,7 @@ use Rattle.judge.specs.LockSet.{empty}
 use Rattle.judge.specs.declared.lock_set.LockSet.{LockSet}
 use Rattle.machine.specs.Block.{coveredFrom}
 use Rattle.machine.specs.State.{codeOf}
-use Rattle.machine.specs.Step.{accessOf}
+use Rattle.program.specs.Access.{accessOf}
 use Rattle.program.proofs.StructureFlat.{length-flat}
 use Rattle.program.specs.Code.{Code, size, flat}
 use Rattle.program.specs.Layout.{Program}

@@ -8,7 +8,8 @@ use lib.Seq.{getD-set-other, set-comm}
 use lib.Dec.{eqb}
 use Rattle.machine.specs.Block.{coveredFrom, inside}
 use Rattle.machine.specs.State.{State, codeOf, threadOf}
-use Rattle.machine.specs.Step.{accessOf, waits, variablesAfter, locksAfter, threadAfter, instructionOf, moveBy, outcome}
+use Rattle.program.specs.Access.{accessOf}
+use Rattle.machine.specs.Step.{waits, variablesAfter, locksAfter, threadAfter, instructionOf, moveBy, outcome}
 use Rattle.machine.specs.declared.thread.Outcome.the-variants.{Moved, Waiting, Idle}
 use Rattle.machine.specs.declared.thread.Thread.{Thread}
 use Rattle.program.specs.Choice.{choose}

@@ -8,7 +8,8 @@ use lib.Dec.{eqb}
 use Rattle.atomicity.specs.Atomicity.{composition, join, closure}
 use Rattle.atomicity.specs.declared.Atomicity.{Atomicity}
 use Rattle.atomicity.specs.declared.Atomicity.the-variants.{Both}
-use Rattle.judge.specs.Discipline.{locksAfter, atomicityOf}
+use Rattle.judge.specs.Discipline.{lockSetAfter, locksAfter, accessMover, atomicityOf}
+use Rattle.program.specs.Access.{accessOf}
 use Rattle.judge.specs.declared.lock_set.LockSet.{LockSet}
 use Rattle.machine.specs.Step.{placeAfter, branch, reg}
 use Rattle.program.specs.Choice.{fine, choose}
@@ -116,7 +117,7 @@ module _ (p : Program) (t : ℕ) where
         → h e ≡ row (Else k) s′ (behind m x) → e + k ≡ f → CodeAt s m (suc e) f
         → h f ≡ row End s′ (behind m (join x y)) → f < last → CodeAt s′ (behind m (join x y)) (suc f) v
         → Proper (behind m (join x y)) → CodeAt s m w v
-    unfolding placeAfter locksAfter atomicityOf
+    unfolding placeAfter locksAfter lockSetAfter atomicityOf accessMover accessOf
     choice-part {r} {n} {k} {m} x y {w} {e} {f} h₁ e₁ first h₂ e₂ second h₃ b rest proper =
         let proper₁ = proper-below (below-first m x y) proper in
         let proper₀ = proper-below (below-behind m x) proper₁ in
@@ -137,7 +138,7 @@ module _ (p : Program) (t : ℕ) where
         → h w ≡ row (While r n) s (behind m (closure x)) → w + n ≡ e → CodeAt s (behind m (closure x)) (suc w) e
         → h e ≡ row (Again n) s (behind (behind m (closure x)) x) → e < last → CodeAt s (behind m (closure x)) (suc e) v
         → Proper (behind m (closure x)) → CodeAt s m w v
-    unfolding placeAfter locksAfter atomicityOf
+    unfolding placeAfter locksAfter lockSetAfter atomicityOf accessMover accessOf
     loop-part {r} {n} m x {w} {e} h₁ e₁ body h₂ b rest proper = record {
       begun = leads-at h₁ (below-behind m (closure x));
       moves =
@@ -154,7 +155,7 @@ module _ (p : Program) (t : ℕ) where
         → h w ≡ row (Atomic n) s m → w + n ≡ e → CodeAt s (entered m) (suc w) e
         → h e ≡ row End s′ (behind (entered m) x) → e < last → CodeAt s′ (behind m x) (suc e) v
         → Proper (behind m x) → CodeAt s m w v
-    unfolding placeAfter locksAfter atomicityOf
+    unfolding placeAfter locksAfter lockSetAfter atomicityOf accessMover accessOf
     block-part {n} m x {w} {e} h₁ e₁ body h₂ b rest proper =
         let proper₀ = proper-below (below-behind m x) proper in
         record {

@@ -13,14 +13,15 @@ use lib.Seq.{getD-set-same, getD-set-other, set-comm}
 use lib.Dec.{eqb}
 use Rattle.atomicity.specs.Atomicity.{atMost}
 use Rattle.atomicity.specs.declared.Atomicity.the-variants as atomicity
-use Rattle.judge.specs.Discipline.{kindAt, permits, accessAtomicity}
+use Rattle.judge.specs.Discipline.{kindAt, permits, accessAtomicity, accessMover}
 use Rattle.judge.specs.LockSet.{holds}
 use Rattle.judge.specs.declared.lock_set.LockSet.{LockSet}
-use Rattle.machine.specs.Step.{Access, none, reads, writes, takes, gives, waits, valueRead, variablesAfter, locksAfter}
+use Rattle.program.specs.Access.{Access, none, reads, writes, takes, gives}
+use Rattle.machine.specs.Step.{waits, valueRead, variablesAfter, locksAfter}
 use Rattle.program.specs.Layout.{Program}
 use Rattle.program.specs.declared.variable.Kind.{Kind}
 use Rattle.program.specs.declared.variable.Kind.the-variants.{Guarded, Own, Fixed, Open}
-use Rattle.soundness.specs.Access.{Permitted, read-permitted, write-permitted, give-permitted, accessMover, TakesBelow, Owns, NoLock, NoVariable, Independent, Swaps, right-first, left-second}
+use Rattle.soundness.specs.Access.{Permitted, read-permitted, write-permitted, give-permitted, TakesBelow, Owns, NoLock, NoVariable, Independent, Swaps, right-first, left-second}
 use Rattle.soundness.proofs.Owns.{take-free}
 
 -- ---- pairs that are independent

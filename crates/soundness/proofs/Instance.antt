@@ -10,7 +10,8 @@ use Rattle.atomicity.specs.Atomicity.{atMost}
 use Rattle.atomicity.specs.declared.Atomicity.the-variants.{Left}
 use Rattle.judge.specs.Discipline.{atomicityOf}
 use Rattle.machine.specs.Block.{inside}
-use Rattle.machine.specs.Step.{accessOf, waits, locksAfter, instructionOf, moveBy, outcome}
+use Rattle.program.specs.Access.{accessOf}
+use Rattle.machine.specs.Step.{waits, locksAfter, instructionOf, moveBy, outcome}
 use Rattle.machine.specs.declared.thread.Outcome.the-variants.{Moved}
 use Rattle.program.specs.Layout.{Program}
 use Rattle.program.specs.declared.instruction.Instruction.{Instruction}
@@ -20,7 +21,6 @@ use Rattle.soundness.specs.Annotation.{Row}
 use Rattle.soundness.specs.Instance.{nextInstruction, nextAccess, nextMover, Swapped, Annotated, placeOf, rowOf, Invariant, Moving, machineMoves}
 use Rattle.soundness.specs.Naming.{Move, Named, blockName, blockOf, moveOf, moved, movedNamed, finishedAfter}
 use Rattle.soundness.specs.Prefix.{statusOf, isInner, Goes}
-use Rattle.soundness.proofs.Access.{access-mover}
 use Rattle.soundness.proofs.Commute.{instruction-other, outcome-other, block-other, move-other, moved-named-comm}
 use Rattle.soundness.proofs.Independent.{independent}
 use Rattle.soundness.proofs.Move.{moved-waits, row-other, in-finished, goes, permitted, takes-below, invariant-moved}
@@ -51,10 +51,10 @@ module _ (p : Program) (A : (t : ℕ) → Annotated p t) where
         ∙ moved-waits p u (movedNamed p t g .machine) f
 
     apart : Independent (nextAccess p g t) (nextAccess p g u)
+    unfolding atomicityOf
     apart =
         independent p n (inv .owns t) (inv .owns u) (nextAccess p g t) (nextAccess p g u)
-        (permitted p A inv t e) permitted-second (takes-below p A inv t e) (moved-waits p t (g .machine) e) waits-second
-        (subst₂ Swaps (access-mover p t (nextInstruction p g t)) (access-mover p u (nextInstruction p g u)) m)
+        (permitted p A inv t e) permitted-second (takes-below p A inv t e) (moved-waits p t (g .machine) e) waits-second m
 
     swap : Swapped p g t u
     unfolding movedNamed moved

@@ -13,7 +13,8 @@ use lib.Seq.{getD-set-same, getD-set-other}
 use lib.Dec.{eqb}
 use Rattle.judge.specs.LockSet.{holds, withLock, withoutLock}
 use Rattle.judge.specs.declared.lock_set.LockSet.{LockSet}
-use Rattle.machine.specs.Step.{Access, none, reads, writes, takes, gives, waits, locksAfter}
+use Rattle.program.specs.Access.{Access, none, reads, writes, takes, gives}
+use Rattle.machine.specs.Step.{waits, locksAfter}
 use Rattle.program.specs.Layout.{Program}
 use Rattle.soundness.specs.Access.{Permitted, give-permitted, setAfter, TakesBelow, Owns}
 

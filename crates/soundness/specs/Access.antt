@@ -8,11 +8,12 @@ use lib.ListN.{getD}
 use lib.Dec.{T}
 use Rattle.atomicity.specs.Atomicity.{atMost}
 use Rattle.atomicity.specs.declared.Atomicity.{Atomicity}
-use Rattle.atomicity.specs.declared.Atomicity.the-variants.{Both, Left, Right}
-use Rattle.judge.specs.Discipline.{kindAt, permits, accessAtomicity}
+use Rattle.atomicity.specs.declared.Atomicity.the-variants.{Left, Right}
+use Rattle.judge.specs.Discipline.{kindAt, permits}
 use Rattle.judge.specs.LockSet.{holds, withLock, withoutLock}
 use Rattle.judge.specs.declared.lock_set.LockSet.{LockSet}
-use Rattle.machine.specs.Step.{Access, none, reads, writes, takes, gives, waits, valueRead, variablesAfter, locksAfter}
+use Rattle.program.specs.Access.{Access, none, reads, writes, takes, gives}
+use Rattle.machine.specs.Step.{waits, valueRead, variablesAfter, locksAfter}
 use Rattle.program.specs.Layout.{Program}
 
 -- thread t may make the access with the lock set s
@@ -22,14 +23,6 @@ pub data Permitted (p : Program) (t : ℕ) (s : LockSet) : Access → Type 0 whe
   write-permitted : {v a : ℕ} → permits (kindAt p v) t s true ≡ true → Permitted p t s (writes v a)
   take-permitted : {k : ℕ} → Permitted p t s (takes k)
   give-permitted : {k : ℕ} → holds s k ≡ true → Permitted p t s (gives k)
-
--- the access's atomicity
-unfoldable pub accessMover : Program → ℕ → Access → Atomicity
-accessMover p t none = Both
-accessMover p t (reads v) = accessAtomicity p t v false
-accessMover p t (writes v a) = accessAtomicity p t v true
-accessMover p t (takes k) = Right
-accessMover p t (gives k) = Left
 
 -- the lock set behind it
 unfoldable pub setAfter : Access → LockSet → LockSet

@@ -8,7 +8,8 @@ use Rattle.judge.specs.Discipline.{atomicityOf}
 use Rattle.judge.specs.LockSet.{empty}
 use Rattle.machine.specs.Block.{coveredFrom}
 use Rattle.machine.specs.State.{codeOf, threadOf}
-use Rattle.machine.specs.Step.{Access, accessOf, instructionOf, outcome}
+use Rattle.program.specs.Access.{Access, accessOf}
+use Rattle.machine.specs.Step.{instructionOf, outcome}
 use Rattle.machine.specs.declared.thread.Outcome.the-variants.{Moved}
 use Rattle.program.specs.Layout.{Program}
 use Rattle.program.specs.declared.instruction.Instruction.{Instruction}

@@ -6,7 +6,7 @@ use Rattle.atomicity.specs.declared.Atomicity.{Atomicity}
 use Rattle.judge.specs.LockSet.{empty}
 use Rattle.judge.specs.declared.lock_set.LockSet.{LockSet}
 use Rattle.machine.specs.State.{codeOf}
-use Rattle.machine.specs.Step.{accessOf}
+use Rattle.program.specs.Access.{accessOf}
 use Rattle.program.specs.Code.{structured}
 use Rattle.program.specs.Layout.{Program, CodeSection}
 use Rattle.program.specs.WellFormed.{Writes}

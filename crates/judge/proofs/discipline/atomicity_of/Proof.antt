@@ -1,6 +1,7 @@
 -- `atomicity_of` meets its contract. Assumes nothing.
 use borrow.Author.Needs.{needs}
-use Rattle.judge.specs.Discipline.{atomicityOf}
+use Rattle.program.specs.Access.{accessOf}
+use Rattle.judge.specs.Discipline.{accessMover, atomicityOf}
 use Rattle.judge.proofs.discipline.atomicity_of.Statement.{statement}
 use Rattle.judge.proofs.discipline.atomicity_of.Tie as tie
 
@@ -56,63 +57,63 @@ enum-told-13 : tie.Need-enum-told-13
 enum-told-13 c = search needs
 
 returns : tie.Need-returns
-unfolding atomicityOf
+unfolding atomicityOf accessMover accessOf
 returns c = rw (c .enum-told .given .1)
 
 returns-2 : tie.Need-returns-2
-unfolding atomicityOf
+unfolding atomicityOf accessMover accessOf
 returns-2 c = rw (c .enum-told2 .given .1)
 
 returns-3 : tie.Need-returns-3
-unfolding atomicityOf
+unfolding atomicityOf accessMover accessOf
 returns-3 c = rw (c .enum-told3 .given .1)
 
 returns-4 : tie.Need-returns-4
-unfolding atomicityOf
+unfolding atomicityOf accessMover accessOf
 returns-4 c = rw (c .enum-told4 .given .1)
 
 returns-5 : tie.Need-returns-5
-unfolding atomicityOf
+unfolding atomicityOf accessMover accessOf
 returns-5 c = rw (c .enum-told5 .given .1)
 
 returns-6 : tie.Need-returns-6
-unfolding atomicityOf
+unfolding atomicityOf accessMover accessOf
 returns-6 c = rw (c .access-atomicity .ensures, c .before .before .i .given .1)
 
 returns-7 : tie.Need-returns-7
-unfolding atomicityOf
+unfolding atomicityOf accessMover accessOf
 returns-7 c = rw (c .access-atomicity2 .ensures, c .before .before .i2 .given .1)
 
 returns-8 : tie.Need-returns-8
-unfolding atomicityOf
+unfolding atomicityOf accessMover accessOf
 returns-8 c = rw (c .enum-told6 .given .1)
 
 returns-9 : tie.Need-returns-9
-unfolding atomicityOf
+unfolding atomicityOf accessMover accessOf
 returns-9 c = rw (c .enum-told7 .given .1)
 
 returns-10 : tie.Need-returns-10
-unfolding atomicityOf
+unfolding atomicityOf accessMover accessOf
 returns-10 c = rw (c .enum-told8 .given .1)
 
 returns-11 : tie.Need-returns-11
-unfolding atomicityOf
+unfolding atomicityOf accessMover accessOf
 returns-11 c = rw (c .enum-told9 .given .1)
 
 returns-12 : tie.Need-returns-12
-unfolding atomicityOf
+unfolding atomicityOf accessMover accessOf
 returns-12 c = rw (c .enum-told10 .given .1)
 
 returns-13 : tie.Need-returns-13
-unfolding atomicityOf
+unfolding atomicityOf accessMover accessOf
 returns-13 c = rw (c .enum-told11 .given .1)
 
 returns-14 : tie.Need-returns-14
-unfolding atomicityOf
+unfolding atomicityOf accessMover accessOf
 returns-14 c = rw (c .enum-told12 .given .1)
 
 returns-15 : tie.Need-returns-15
-unfolding atomicityOf
+unfolding atomicityOf accessMover accessOf
 returns-15 c = rw (c .enum-told13 .given .1)
 
 pub atomicity-of-spec : {M : Type 1} → statement M

@@ -1,9 +1,10 @@
 -- `offence` meets its contract. Assumes nothing.
 use borrow.Author.Needs.{needs}
 use mathlib.Core.Bool.{true, false}
+use Rattle.program.specs.Access.{accessOf}
 use Rattle.program.specs.Layout.{programOf}
 use Rattle.program.specs.declared.refusal.Refusal.the-variants.{Access, Taken, NotTaken}
-use Rattle.judge.specs.Discipline.{kindAt, permits, locksAfter}
+use Rattle.judge.specs.Discipline.{kindAt, permits, lockSetAfter, locksAfter}
 use Rattle.judge.specs.LockSet.{holds, withLock, withoutLock}
 use Rattle.judge.specs.Turns.{moved}
 use Rattle.judge.proofs.Answers.{judged-choose, judged-not}
@@ -74,27 +75,27 @@ enum-told-11 : tie.Need-enum-told-11
 enum-told-11 c = search needs
 
 returns : tie.Need-returns
-unfolding locksAfter moved
+unfolding locksAfter lockSetAfter accessOf moved
 returns c = rw (c .enum-told .given .1)
 
 returns-2 : tie.Need-returns-2
-unfolding locksAfter moved
+unfolding locksAfter lockSetAfter accessOf moved
 returns-2 c = rw (c .enum-told2 .given .1)
 
 returns-3 : tie.Need-returns-3
-unfolding locksAfter moved
+unfolding locksAfter lockSetAfter accessOf moved
 returns-3 c = rw (c .enum-told3 .given .1)
 
 returns-4 : tie.Need-returns-4
-unfolding locksAfter moved
+unfolding locksAfter lockSetAfter accessOf moved
 returns-4 c = rw (c .enum-told4 .given .1)
 
 returns-5 : tie.Need-returns-5
-unfolding locksAfter moved
+unfolding locksAfter lockSetAfter accessOf moved
 returns-5 c = rw (c .enum-told5 .given .1)
 
 returns-6 : tie.Need-returns-6
-unfolding locksAfter moved
+unfolding locksAfter lockSetAfter accessOf moved
 returns-6 c =
     let args = c .before .before .before .before .before .before .args in
     let i = c .before .before .i .given .0 in
@@ -102,7 +103,7 @@ returns-6 c =
     (judged-choose (permits (kindAt (programOf (args .s .now) (args .l)) (i .1 .0)) (args .thread) (record { held = args .held .now }) false) (Access (args .d)) (record { held = args .held .now }))
 
 returns-7 : tie.Need-returns-7
-unfolding locksAfter moved
+unfolding locksAfter lockSetAfter accessOf moved
 returns-7 c =
     let args = c .before .before .before .before .before .before .args in
     let i = c .before .before .i2 .given .0 in
@@ -110,7 +111,7 @@ returns-7 c =
     (judged-choose (permits (kindAt (programOf (args .s .now) (args .l)) (i .1 .0)) (args .thread) (record { held = args .held .now }) true) (Access (args .d)) (record { held = args .held .now }))
 
 returns-8 : tie.Need-returns-8
-unfolding locksAfter moved holds
+unfolding locksAfter lockSetAfter accessOf moved holds
 returns-8 c =
     let args = c .before .before .before .before .before .before .before .args in
     let i = c .before .before .before .i3 .given .0 in
@@ -118,7 +119,7 @@ returns-8 c =
     (judged-not (holds (record { held = args .held .now }) (i .0)) (Taken (args .d)) (withLock (record { held = args .held .now }) (i .0)))
 
 returns-9 : tie.Need-returns-9
-unfolding locksAfter moved holds
+unfolding locksAfter lockSetAfter accessOf moved holds
 returns-9 c =
     let args = c .before .before .before .before .before .before .before .args in
     let i = c .before .before .before .i4 .given .0 in
@@ -126,27 +127,27 @@ returns-9 c =
     (judged-choose (holds (record { held = args .held .now }) (i .0)) (NotTaken (args .d)) (withoutLock (record { held = args .held .now }) (i .0)))
 
 returns-10 : tie.Need-returns-10
-unfolding locksAfter moved
+unfolding locksAfter lockSetAfter accessOf moved
 returns-10 c = rw (c .enum-told6 .given .1)
 
 returns-11 : tie.Need-returns-11
-unfolding locksAfter moved
+unfolding locksAfter lockSetAfter accessOf moved
 returns-11 c = rw (c .enum-told7 .given .1)
 
 returns-12 : tie.Need-returns-12
-unfolding locksAfter moved
+unfolding locksAfter lockSetAfter accessOf moved
 returns-12 c = rw (c .enum-told8 .given .1)
 
 returns-13 : tie.Need-returns-13
-unfolding locksAfter moved
+unfolding locksAfter lockSetAfter accessOf moved
 returns-13 c = rw (c .enum-told9 .given .1)
 
 returns-14 : tie.Need-returns-14
-unfolding locksAfter moved
+unfolding locksAfter lockSetAfter accessOf moved
 returns-14 c = rw (c .enum-told10 .given .1)
 
 returns-15 : tie.Need-returns-15
-unfolding locksAfter moved
+unfolding locksAfter lockSetAfter accessOf moved
 returns-15 c = rw (c .enum-told11 .given .1)
 
 pub offence-spec : {M : Type 1} → statement M

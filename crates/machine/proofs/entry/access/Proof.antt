@@ -4,7 +4,8 @@ use borrow.Author.Needs.{needs}
 use Rattle.program.specs.Sound.{FieldsGood}
 use Rattle.program.specs.declared.instruction.Instruction.{Instruction}
 use Rattle.machine.specs.Reached.{shared, locksLeft}
-use Rattle.machine.specs.Step.{accessOf, waits, valueRead, variablesAfter, locksAfter}
+use Rattle.program.specs.Access.{accessOf}
+use Rattle.machine.specs.Step.{waits, valueRead, variablesAfter, locksAfter}
 use Rattle.machine.proofs.entry.access.Statement.{statement}
 use Rattle.machine.proofs.entry.access.Tie as tie
 

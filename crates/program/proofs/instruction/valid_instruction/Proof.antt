@@ -1,11 +1,9 @@
 -- `valid_instruction` meets its contract. Assumes nothing.
-use Prim.Native.Nat.{_+_, _*_}
-use mathlib.Core.Bool.{_&&_}
-use lib.Dec.{ltb, eqb}
+use mathlib.Core.Path.{sym, _∙_}
 use borrow.Author.Needs.{needs}
 use borrow.Author.Tests.{ne-eqb}
-use Rattle.program.specs.Instruction.{decode, isRegister, isZero}
-use Rattle.program.proofs.Decode.{valid-row, last-row}
+use Rattle.program.specs.Row.{rowInstruction}
+use Rattle.program.proofs.Decode.{row-numbered}
 use Rattle.program.proofs.instruction.valid_instruction.Statement.{statement}
 use Rattle.program.proofs.instruction.valid_instruction.Tie as tie
 
@@ -15,69 +13,71 @@ mul-n c = search needs
 add-n : tie.Need-add-n
 add-n c = search needs
 
+row-number-requires : tie.Need-row-number-requires
+row-number-requires c κs = search needs
+
 returns : tie.Need-returns
-unfolding decode
-returns c locks variables = let x = c .before .args in rw (c .match .keys1) (valid-row (isRegister (x .a)) _)
+unfolding rowInstruction
+returns c locks variables = let x = c .before .before .args in row-numbered locks variables (x .op) (x .a) (x .b) (x .c) 1 (sym (c .match .keys1) ∙ c .before .row-number .ensures)
 
 returns-2 : tie.Need-returns-2
-unfolding decode
-returns-2 c locks variables = let x = c .before .args in rw (c .match .keys2) (valid-row (isRegister (x .a) && isRegister (x .b) && isZero (x .c)) _)
+unfolding rowInstruction
+returns-2 c locks variables = let x = c .before .before .args in row-numbered locks variables (x .op) (x .a) (x .b) (x .c) 2 (sym (c .match .keys2) ∙ c .before .row-number .ensures)
 
 returns-3 : tie.Need-returns-3
-unfolding decode
-returns-3 c locks variables = let x = c .before .args in rw (c .match .keys3) (valid-row (isRegister (x .a) && isRegister (x .b) && isRegister (x .c)) _)
+unfolding rowInstruction
+returns-3 c locks variables = let x = c .before .before .args in row-numbered locks variables (x .op) (x .a) (x .b) (x .c) 3 (sym (c .match .keys3) ∙ c .before .row-number .ensures)
 
 returns-4 : tie.Need-returns-4
-unfolding decode
-returns-4 c locks variables = let x = c .before .args in rw (c .match .keys4) (valid-row (isRegister (x .a) && isRegister (x .b) && isRegister (x .c)) _)
+unfolding rowInstruction
+returns-4 c locks variables = let x = c .before .before .args in row-numbered locks variables (x .op) (x .a) (x .b) (x .c) 4 (sym (c .match .keys4) ∙ c .before .row-number .ensures)
 
 returns-5 : tie.Need-returns-5
-unfolding decode
-returns-5 c locks variables = let x = c .before .args in rw (c .match .keys5) (valid-row (isRegister (x .a) && isRegister (x .b) && isRegister (x .c)) _)
+unfolding rowInstruction
+returns-5 c locks variables = let x = c .before .before .args in row-numbered locks variables (x .op) (x .a) (x .b) (x .c) 5 (sym (c .match .keys5) ∙ c .before .row-number .ensures)
 
 returns-6 : tie.Need-returns-6
-unfolding decode
-returns-6 c locks variables = let x = c .before .args in rw (c .match .keys6) (valid-row (isRegister (x .a) && ltb (x .b) variables && isZero (x .c)) _)
+unfolding rowInstruction
+returns-6 c locks variables = let x = c .before .before .args in row-numbered locks variables (x .op) (x .a) (x .b) (x .c) 6 (sym (c .match .keys6) ∙ c .before .row-number .ensures)
 
 returns-7 : tie.Need-returns-7
-unfolding decode
-returns-7 c locks variables = let x = c .before .args in rw (c .match .keys7) (valid-row (isRegister (x .a) && ltb (x .b) variables && isZero (x .c)) _)
+unfolding rowInstruction
+returns-7 c locks variables = let x = c .before .before .args in row-numbered locks variables (x .op) (x .a) (x .b) (x .c) 7 (sym (c .match .keys7) ∙ c .before .row-number .ensures)
 
 returns-8 : tie.Need-returns-8
-unfolding decode
-returns-8 c locks variables = let x = c .before .args in rw (c .match .keys8) (valid-row (ltb (x .a) locks && isZero (x .b) && isZero (x .c)) _)
+unfolding rowInstruction
+returns-8 c locks variables = let x = c .before .before .args in row-numbered locks variables (x .op) (x .a) (x .b) (x .c) 8 (sym (c .match .keys8) ∙ c .before .row-number .ensures)
 
 returns-9 : tie.Need-returns-9
-unfolding decode
-returns-9 c locks variables = let x = c .before .args in rw (c .match .keys9) (valid-row (ltb (x .a) locks && isZero (x .b) && isZero (x .c)) _)
+unfolding rowInstruction
+returns-9 c locks variables = let x = c .before .before .args in row-numbered locks variables (x .op) (x .a) (x .b) (x .c) 9 (sym (c .match .keys9) ∙ c .before .row-number .ensures)
 
 returns-10 : tie.Need-returns-10
-unfolding decode
-returns-10 c locks variables = let x = c .before .args in rw (c .match .keys10) (valid-row (isRegister (x .a)) _)
+unfolding rowInstruction
+returns-10 c locks variables = let x = c .before .before .args in row-numbered locks variables (x .op) (x .a) (x .b) (x .c) 10 (sym (c .match .keys10) ∙ c .before .row-number .ensures)
 
 returns-11 : tie.Need-returns-11
-unfolding decode
-returns-11 c locks variables = let x = c .before .args in rw (c .match .keys11) (valid-row (isZero (x .a)) _)
+unfolding rowInstruction
+returns-11 c locks variables = let x = c .before .before .args in row-numbered locks variables (x .op) (x .a) (x .b) (x .c) 11 (sym (c .match .keys11) ∙ c .before .row-number .ensures)
 
 returns-12 : tie.Need-returns-12
-unfolding decode
-returns-12 c locks variables = let x = c .before .args in rw (c .match .keys12) (valid-row (isRegister (x .a)) _)
+unfolding rowInstruction
+returns-12 c locks variables = let x = c .before .before .args in row-numbered locks variables (x .op) (x .a) (x .b) (x .c) 12 (sym (c .match .keys12) ∙ c .before .row-number .ensures)
 
 returns-13 : tie.Need-returns-13
-unfolding decode
-returns-13 c locks variables = let x = c .before .args in rw (c .match .keys13) (valid-row (isZero (x .a)) _)
+unfolding rowInstruction
+returns-13 c locks variables = let x = c .before .before .args in row-numbered locks variables (x .op) (x .a) (x .b) (x .c) 13 (sym (c .match .keys13) ∙ c .before .row-number .ensures)
 
 returns-14 : tie.Need-returns-14
-unfolding decode
-returns-14 c locks variables = let x = c .before .args in rw (c .match .keys14) (valid-row (isZero (x .a)) _)
+unfolding rowInstruction
+returns-14 c locks variables = let x = c .before .before .args in row-numbered locks variables (x .op) (x .a) (x .b) (x .c) 14 (sym (c .match .keys14) ∙ c .before .row-number .ensures)
 
 returns-15 : tie.Need-returns-15
-unfolding decode
+unfolding rowInstruction
 returns-15 c locks variables valid =
-    let x = c .before .args in
+    let x = c .before .before .args in
     let r = c .match .rest in
-    rw (ne-eqb _ _ (r .0 .0 .0 .0 .0 .0 .0 .0 .0 .0 .0 .0 .0 .1), ne-eqb _ _ (r .0 .0 .0 .0 .0 .0 .0 .0 .0 .0 .0 .0 .1), ne-eqb _ _ (r .0 .0 .0 .0 .0 .0 .0 .0 .0 .0 .0 .1), ne-eqb _ _ (r .0 .0 .0 .0 .0 .0 .0 .0 .0 .0 .1), ne-eqb _ _ (r .0 .0 .0 .0 .0 .0 .0 .0 .0 .1), ne-eqb _ _ (r .0 .0 .0 .0 .0 .0 .0 .0 .1), ne-eqb _ _ (r .0 .0 .0 .0 .0 .0 .0 .1), ne-eqb _ _ (r .0 .0 .0 .0 .0 .0 .1), ne-eqb _ _ (r .0 .0 .0 .0 .0 .1), ne-eqb _ _ (r .0 .0 .0 .0 .1), ne-eqb _ _ (r .0 .0 .0 .1), ne-eqb _ _ (r .0 .0 .1), ne-eqb _ _ (r .0 .1), ne-eqb _ _ (r .1))
-    (last-row (eqb (x .op) 0x35) (isZero (x .a) && isZero (x .b) && isZero (x .c)))
+    rw (ne-eqb _ _ (r .0 .0 .0 .0 .0 .0 .0 .0 .0 .0 .0 .0 .0 .1), ne-eqb _ _ (r .0 .0 .0 .0 .0 .0 .0 .0 .0 .0 .0 .0 .1), ne-eqb _ _ (r .0 .0 .0 .0 .0 .0 .0 .0 .0 .0 .0 .1), ne-eqb _ _ (r .0 .0 .0 .0 .0 .0 .0 .0 .0 .0 .1), ne-eqb _ _ (r .0 .0 .0 .0 .0 .0 .0 .0 .0 .1), ne-eqb _ _ (r .0 .0 .0 .0 .0 .0 .0 .0 .1), ne-eqb _ _ (r .0 .0 .0 .0 .0 .0 .0 .1), ne-eqb _ _ (r .0 .0 .0 .0 .0 .0 .1), ne-eqb _ _ (r .0 .0 .0 .0 .0 .1), ne-eqb _ _ (r .0 .0 .0 .0 .1), ne-eqb _ _ (r .0 .0 .0 .1), ne-eqb _ _ (r .0 .0 .1), ne-eqb _ _ (r .0 .1), ne-eqb _ _ (r .1)) at (row-numbered locks variables (x .op) (x .a) (x .b) (x .c) _ (c .before .row-number .ensures) valid)
 
 pub valid-instruction-spec : {M : Type 1} → statement M
 valid-instruction-spec =
@@ -85,6 +85,7 @@ valid-instruction-spec =
     (tie.spec
     mul-n
     add-n
+    row-number-requires
     returns
     returns-2
     returns-3
