@@ -1,7 +1,7 @@
--- Reading looks at the first 33,174 bytes of a file only: files that are at least that long and agree on those bytes are refused alike.
+-- Of a file's first 33,174 bytes, all that reading can look at: two files that agree on them, neither shorter, are refused alike.
 -- Assumes nothing.
---     largest-file    a sound file has at most 33,173 bytes
 --     fields-alike    the fields of two such files
+--     largest-file    a sound file has at most 33,173 bytes
 --     refused-alike   both are refused, with the same refusal
 use Prim.Native.Nat.{ℕ, zero, suc, _+_, _*_, _%_, _/_, _<_, _≤_}
 use mathlib.Core.Path.{_≡_, refl, sym, _∙_, ap}
@@ -27,7 +27,7 @@ use Rattle.program.specs.declared.cursor.Field.the-variants as field
 use Rattle.program.specs.declared.layout.Layout.{Layout}
 use Rattle.program.specs.declared.layout.Reading.the-variants.{Sound, Refused}
 use Rattle.program.specs.declared.refusal.Refusal.{Refusal}
-use Rattle.program.specs.declared.refusal.Refusal.the-variants.{Missing, Version, Count, Length, LeftOver, Record, Nesting}
+use Rattle.program.specs.declared.refusal.Refusal.the-variants.{Missing, Version, Count, Length, Record, Nesting}
 use Rattle.program.specs.declared.refusal.Refusal.the-variants as refusal
 use Rattle.program.proofs.Answers.{bind-value, section-value, variables-value, code-value}
 use Rattle.program.proofs.Sound.{sound-file}
@@ -74,15 +74,15 @@ module _ (locks variables : ℕ) (s : List ℕ) where
       let g = bind-value (codeSections locks variables s n (b .1)) (later (b .0, b .1)) m d (b .3) in
       let values = g .3 in
       let d-is : g .1 ≡ d = cc in
-      omega
-      (
+      omega (
         arith,
         ap (λ (x : Cursor). x .at) d-is,
         code-end c (b .0) (b .1) (b .2),
         sections-end n (b .1) (g .0) (g .1) (g .2),
       )
 
--- files that agree below n, and are at least that long
+-- two files that agree below n, neither shorter: each piece that ends by then is read alike. No byte is missing, so the length of the
+-- file, the detail of that refusal, does not show
 module _ (s t : List ℕ) (n : ℕ) (long-s : n ≤ length s) (long-t : n ≤ length t) (same : (i : ℕ) → i < n → byteAt s i ≡ byteAt t i) where
   pair-alike : (at : ℕ) → at + 2 ≤ n → pairAt s at ≡ pairAt t at
   pair-alike at h = rw (same at (omega arith), same (at + 1) (omega arith))
@@ -96,8 +96,8 @@ module _ (s t : List ℕ) (n : ℕ) (long-s : n ≤ length s) (long-t : n ≤ le
       rw (le-leb (c .at + 2) (length s) (omega arith), le-leb (c .at + 2) (length t) (omega arith), pair-alike (c .at) (omega arith))
       (require-ext (eqb (m % size) 0 && leb m limit) (Length (c .at)) (last s) (last t)
       (λ ok.
-        let few = leb-true m limit (and-eq-true-iff (eqb (m % size) 0) (leb m limit) .0 ok .1) in
-        rw (le-leb (c .at + 2 + m) (length s) (omega arith), le-leb (c .at + 2 + m) (length t) (omega arith))))
+      let few = leb-true m limit (and-eq-true-iff (eqb (m % size) 0) (leb m limit) .0 ok .1) in
+      rw (le-leb (c .at + 2 + m) (length s) (omega arith), le-leb (c .at + 2 + m) (length t) (omega arith))))
 
   record-alike : (locks threads at : ℕ) → at + 6 ≤ n → recordAt locks threads s at ≡ recordAt locks threads t at
   unfolding recordAt
@@ -111,10 +111,10 @@ module _ (s t : List ℕ) (n : ℕ) (long-s : n ≤ length s) (long-t : n ≤ le
       λ f x. requireNone (firstBad (good f) 6 (x .0) (x .1 .at)) Record (Value (x .0) (cursor (x .1 .at + 6 * x .0))) in
       bind-ext (section 6 384 s c) (section 6 384 t c) (rest s) (rest t) (section-alike 6 384 c (omega arith))
       (λ m first e.
-        let r = section-value 6 384 s c m first e in
-        let start : first .at ≡ c .at + 2 = ap (λ (x : Cursor). x .at) (r .start) in
-        let fits : first .at + 6 * m ≤ n = omega (arith, r .few) in
-        rw (firstBad-alike (good s) (good t) 6 n (λ i k. ap Variable.isValid (record-alike locks threads i k)) m (first .at) fits))
+      let r = section-value 6 384 s c m first e in
+      let start : first .at ≡ c .at + 2 = ap (λ (x : Cursor). x .at) (r .start) in
+      let fits : first .at + 6 * m ≤ n = omega (arith, r .few) in
+      rw (firstBad-alike (good s) (good t) 6 n (λ i k. ap Variable.isValid (record-alike locks threads i k)) m (first .at) fits))
 
   module _ (locks variables : ℕ) where
     decode-alike : (at : ℕ) → at + 4 ≤ n → decodeAt locks variables s at ≡ decodeAt locks variables t at
@@ -137,14 +137,13 @@ module _ (s t : List ℕ) (n : ℕ) (long-s : n ≤ length s) (long-t : n ≤ le
         (Value (x .0) (cursor (x .1 .at + 4 * x .0)))) in
         bind-ext (section 4 4096 s c) (section 4 4096 t c) (rest s) (rest t) (section-alike 4 4096 c (omega arith))
         (λ m first e.
-          let r = section-value 4 4096 s c m first e in
-          let start : first .at ≡ c .at + 2 = ap (λ (x : Cursor). x .at) (r .start) in
-          let fits : first .at + 4 * m ≤ n = omega (arith, r .few) in
-          rw
-          (
-            firstBad-alike (good s) (good t) 4 n (λ i k. ap Instruction.isValid (decode-alike i k)) m (first .at) fits,
-            instructions-alike m (first .at) fits,
-          ))
+        let r = section-value 4 4096 s c m first e in
+        let start : first .at ≡ c .at + 2 = ap (λ (x : Cursor). x .at) (r .start) in
+        let fits : first .at + 4 * m ≤ n = omega (arith, r .few) in
+        rw (
+          firstBad-alike (good s) (good t) 4 n (λ i k. ap Instruction.isValid (decode-alike i k)) m (first .at) fits,
+          instructions-alike m (first .at) fits,
+        ))
 
     sections-alike : (k : ℕ) (c : Cursor) → c .at + 4098 * k ≤ n → codeSections locks variables s k c ≡ codeSections locks variables t k c
     unfolding codeSections
@@ -166,23 +165,22 @@ module _ (s t : List ℕ) (n : ℕ) (long-s : n ≤ length s) (long-t : n ≤ le
       let rest : List ℕ → Field = λ f. variableSection locks threads f (cursor 3) >>= afterVariables f locks threads in
       require-ext (leb 1 threads && leb threads 8) (Count 2) (rest s) (rest t)
       (λ ok.
-        let few = leb-true threads 8 (and-eq-true-iff (leb 1 threads) (leb threads 8) .0 ok .1) in
-        bind-ext (variableSection locks threads s (cursor 3)) (variableSection locks threads t (cursor 3))
-        (afterVariables s locks threads) (afterVariables t locks threads) (variables-alike locks threads (cursor 3) (omega arith))
-        (λ m c e.
-          let r = variables-value locks threads s (cursor 3) m c e in
-          let next : c .at ≡ 5 + 6 * m = ap (λ (x : Cursor). x .at) (r .next) in
-          let room : c .at + 4098 * threads ≤ 33173 = omega (arith, r .head .few) in
-          bind-ext (codeSections locks m s threads c) (codeSections locks m t threads c) (afterSections s) (afterSections t)
-          (sections-alike locks m threads c (omega arith))
-          (λ k d g. end-alike (k, d) (omega (arith, sections-end locks m s threads c k d g)))))
+      let few = leb-true threads 8 (and-eq-true-iff (leb 1 threads) (leb threads 8) .0 ok .1) in
+      bind-ext (variableSection locks threads s (cursor 3)) (variableSection locks threads t (cursor 3))
+      (afterVariables s locks threads) (afterVariables t locks threads) (variables-alike locks threads (cursor 3) (omega arith))
+      (λ m c e.
+      let r = variables-value locks threads s (cursor 3) m c e in
+      let next : c .at ≡ 5 + 6 * m = ap (λ (x : Cursor). x .at) (r .next) in
+      let room : c .at + 4098 * threads ≤ 33173 = omega (arith, r .head .few) in
+      bind-ext (codeSections locks m s threads c) (codeSections locks m t threads c) (afterSections s) (afterSections t)
+      (sections-alike locks m threads c (omega arith))
+      (λ k d g. end-alike (k, d) (omega (arith, sections-end locks m s threads c k d g)))))
 
   -- all fields, front to back
   pub fields-alike : 33174 ≤ n → fields s ≡ fields t
   unfolding fields
   fields-alike h =
-      rw
-      (
+      rw (
         byte-there s 0 (omega arith),
         byte-there t 0 (omega arith),
         byte-there s 1 (omega arith),
@@ -196,16 +194,16 @@ module _ (s t : List ℕ) (n : ℕ) (long-s : n ≤ length s) (long-t : n ≤ le
       (ap (λ (rest : Field). require (eqb (byteAt t 0) 1) (Version 0) (require (leb (byteAt t 1) 16) (Count 1) rest))
       (threads-alike (byteAt t 1) (byteAt t 2) h))
 
--- "The largest file has 33,173 bytes"
+-- n code sections to the file's end
 length-sections : (s : List ℕ) (locks variables n at m : ℕ) → SoundSections s locks variables n at m → length s ≤ at + 4098 * n
 length-sections s locks variables zero at m h = omega (arith, h .0)
 length-sections s locks variables (suc n) at m h =
     omega (arith, h .1 .few, length-sections s locks variables n (at + 2 + 4 * countAt s at) (h .0) (h .3))
 
+-- "The largest file has 33,173 bytes"
 pub largest-file : (s : List ℕ) (l : Layout) → SoundFile s l → length s ≤ 33173
 largest-file s l h =
-    omega
-    (
+    omega (
       arith,
       h .variables,
       h .threads,
