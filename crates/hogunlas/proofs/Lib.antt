@@ -5,6 +5,7 @@
 --     Running       ... of run
 --     Printing      ... of line
 --     Numbers       a refusal as C gets it
+--     Prefix        bench prints the same for the first 33,174 bytes as for the whole file
 --     Cases         document 01's starred cases
 --     Examples      worked examples, computed
 pub mod Definitions
@@ -13,5 +14,6 @@ pub mod Answers
 pub mod Running
 pub mod Printing
 pub mod Numbers
+pub mod Prefix
 pub mod Cases
 pub mod Examples

@@ -8,6 +8,7 @@
 --     Sections   the code sections of the threads
 --     Steps      the steps of the definition of reading
 --     Sound      what a file that is read as sound holds
+--     Prefix     bytes past the largest file's length are not looked at
 --     Structure  nesting passes exactly for the flat writing of structured code; by way of
 --                StructureFlat (the flat writing, and reading it back), StructureTurn (what a scan that passes has come to),
 --                StructureParse (from the scan to the code) and StructureScan (from the code to the scan)
@@ -21,6 +22,7 @@ pub mod Answers
 pub mod Sections
 pub mod Steps
 pub mod Sound
+pub mod Prefix
 pub mod StructureFlat
 pub mod StructureTurn
 pub mod StructureParse
