@@ -1,6 +1,5 @@
 //! The verified program `bench`: on the stored files it prints what stands beside them, on
 //! generated ones what the library's calls answer.
-#![cfg(feature = "line")]
 
 mod stored;
 

@@ -104,7 +104,6 @@ fn judge_answers_as_stated() {
     });
 }
 
-#[cfg(feature = "run")]
 mod run {
     use super::*;
     use hogunlas::Counts;
@@ -192,7 +191,6 @@ mod run {
     }
 }
 
-#[cfg(feature = "line")]
 mod line {
     use super::*;
     use hogunlas::LINE_BUFFER;
