@@ -19,8 +19,10 @@ const SIXTEEN_OPEN: &[u8] = &[
     1,
 ];
 
+const EVERY_NAME: &[u8] = &[1, 1, 1, 1, 1, 3, 1, 2, 1, 1, 4, 1, 1, 0, 0, 1, 0, 1, 0, 5];
+
 /// The files of `examples/cases/`, whose README says what each one shows.
-const STATED: [(&str, Stated); 29] = [
+const STATED: [(&str, Stated); 30] = [
     // Cases.
     ("empty_file", Err((1, 0))),
     ("sixteen_open", Ok(SIXTEEN_OPEN)),
@@ -54,6 +56,8 @@ const STATED: [(&str, Stated); 29] = [
     ("take_held", Err((10, 7 + 4))),
     ("give_not_held", Err((11, 7))),
     ("kept_to_end", Err((12, 7 + 4))),
+    // Every name and every kind.
+    ("every_name", Ok(EVERY_NAME)),
 ];
 
 fn each_stated(mut check: impl FnMut(&Stored, Stated)) {

@@ -35,7 +35,7 @@ fn every_station_program_has_its_printout() {
 
 #[test]
 fn every_case_has_its_printout() {
-    have_their_printouts("../examples/cases", 29);
+    have_their_printouts("../examples/cases", 30);
 }
 
 /// 0 stands for an accepted file.
