@@ -4,16 +4,15 @@
 --     read-refused                     a file that is not sound
 --     counts-small                     the length of a sound file's report
 --     judged-refused, judged-fine      a sound file
-use Prim.Native.Nat.{ℕ, zero, suc, _+_, _*_, _/_, _≤_, _<_}
+use Prim.Native.Nat.{ℕ, zero, suc, _+_, _*_, _≤_}
 use mathlib.Core.Path.{_≡_, refl, sym, _∙_, ap}
-use mathlib.Core.List.{List, [], _∷_, _++_}
+use mathlib.Core.List.{List, _++_}
 use native.Mathlib.Omega.{arith}
 use lib.ListN.{length, drop}
 use lib.Seq.{sets}
 use Rattle.program.specs.Choice.{Answer, fine, refused, _>>=_}
-use Rattle.program.specs.Field.{pairAt}
-use Rattle.program.specs.Layout.{Program, CodeSection, programOf, threadsAt, instructionsAt, reading}
-use Rattle.program.specs.Sound.{SoundFile, SoundSections, countAt}
+use Rattle.program.specs.Layout.{programOf, threadsAt, instructionsAt, reading}
+use Rattle.program.specs.Sound.{SoundSections, countAt}
 use Rattle.program.specs.declared.layout.Layout.{Layout}
 use Rattle.program.specs.declared.layout.Reading.the-variants.{Sound, Refused}
 use Rattle.program.specs.declared.refusal.Refusal.{Refusal}

@@ -4,12 +4,12 @@
 --     sets-closed   a construct's bytes: 0 at its opener, its body's, 0 at its closer, then its own at its opener
 --     sets-parts    two parts' bytes with a 0 between them
 --     sets-all      a run of stores from the front on
-use Prim.Native.Nat.{ℕ, zero, suc, _+_, _≤_, _<_}
+use Prim.Native.Nat.{ℕ, suc, _+_, _≤_, _<_}
 use mathlib.Core.Path.{_≡_, refl, sym, _∙_, ap}
-use mathlib.Core.List.{List, [], _∷_, _++_, append-assoc}
-use native.Mathlib.Nat.{add-zero, zero-add, add-suc, suc-add}
+use mathlib.Core.List.{List, [], _∷_, _++_}
+use native.Mathlib.Nat.{add-zero, zero-add}
 use native.Mathlib.Omega.{arith}
-use lib.ListN.{length, set, drop, length-append}
+use lib.ListN.{length, set, drop}
 use lib.Seq.{sets, set-comm, set-set, sets-eq}
 
 pub sets-append : (l : List ℕ) (i : ℕ) (u v : List ℕ) → sets l i (u ++ v) ≡ sets (sets l i u) (i + length u) v

@@ -4,29 +4,29 @@
 --     Nested            sections whose code is well nested
 --     threads-agree     the threads of such sections
 --     threads-size      how many bytes their reports have
-use Prim.Native.Nat.{ℕ, zero, suc, _+_, _*_, _≤_, _<_}
+use Prim.Native.Nat.{ℕ, suc, _+_, _*_}
 use mathlib.Core.Path.{_≡_, refl, sym, _∙_, ap}
-use mathlib.Core.List.{List, [], _∷_, _++_, append-nil}
+use mathlib.Core.List.{List, [], _∷_, append-nil}
 use native.Mathlib.Omega.{arith}
 use lib.ListN.{length, set, length-append}
 use lib.Seq.{sets}
-use Rattle.atomicity.specs.Atomicity.{reportByte, composition}
+use Rattle.atomicity.specs.Atomicity.{reportByte}
 use Rattle.atomicity.specs.declared.Atomicity.{Atomicity}
 use Rattle.atomicity.specs.declared.Atomicity.the-variants.{Both}
 use Rattle.atomicity.proofs.Laws.{both-then}
-use Rattle.program.specs.Choice.{Answer, fine, refused, _>>=_, require}
-use Rattle.program.specs.Code.{Code, size, flat, structured}
+use Rattle.program.specs.Choice.{Answer, fine, _>>=_}
+use Rattle.program.specs.Code.{size, flat, structured}
 use Rattle.program.specs.Layout.{Program, CodeSection}
 use Rattle.program.specs.WellFormed.{Writes}
 use Rattle.program.specs.declared.instruction.Instruction.{Instruction}
 use Rattle.program.specs.declared.refusal.Refusal.the-variants.{SetsDiffer}
 use Rattle.program.proofs.StructureFlat.{length-flat}
-use Rattle.judge.specs.Judging.{Judged, judge, judgeThread, judgeThreads}
+use Rattle.judge.specs.Judging.{judge, judgeThread, judgeThreads}
 use Rattle.judge.specs.LockSet.{empty, same}
-use Rattle.judge.specs.Scan.{Carried, scan, starting, wholeFrame, ending, scanThread, scanThreads}
+use Rattle.judge.specs.Scan.{Carried, scan, starting, ending, scanThread, scanThreads}
 use Rattle.judge.proofs.Answers.{Holds, bind-assoc, bind-ext, bind-holds, require-bind, require-ext, require-holds, holds-fine}
 use Rattle.judge.proofs.Reports.{sets-append}
-use Rattle.judge.proofs.Scanning.{after, carried, report-size, scan-agrees}
+use Rattle.judge.proofs.Scanning.{report-size, scan-agrees}
 
 -- the size of the code that instructions write out
 size-of : (section : CodeSection) → Writes (section .code) (structured (section .code)) → size (structured (section .code)) ≡ length (section .code)
@@ -63,7 +63,7 @@ module _ (p : Program) where
       let size-is = size-of section w in
       ap (λ (is : List Instruction). scan p t (section .start) at (starting report) is >>= ending end (at + n)) (sym (append-nil (flat c) ∙ w .flat-is))
       ∙ ap (λ (m : Answer Carried). m >>= ending end (at + n))
-      (scan-agrees p t c (section .start) at empty Both wholeFrame [] report [] (w .well-formed) (omega (arith, w .shallow)))
+      (scan-agrees p t c (section .start) at empty Both [] report [] (w .well-formed) (omega (arith, w .shallow)))
       ∙ bind-assoc (judge p t (section .start) empty c) _ (ending end (at + n))
       ∙ bind-ext (judge p t (section .start) empty c) _ _ (λ r e.
       let m = holds-fine _ (judge p t (section .start) empty c) r (report-size p t c (section .start) empty) e in

@@ -5,15 +5,14 @@
 --     next-thread      ... after a thread
 --     ends-refused     a refusal of a thread is one of the threads
 --     ends-threads     the last thread's end
-use Prim.Native.Nat.{ℕ, zero, suc, _+_, _*_, _-_, _/_, _≤_, _<_}
-use mathlib.Core.Path.{_≡_, refl, sym, _∙_, ap, subst}
-use mathlib.Core.List.{List, [], _∷_}
+use Prim.Native.Nat.{ℕ, suc, _+_, _*_, _-_, _≤_, _<_}
+use mathlib.Core.Path.{_≡_, refl, _∙_, ap, subst}
+use mathlib.Core.List.{List}
 use native.Mathlib.Numerals.{add-one}
 use native.Mathlib.Omega.{arith}
 use lib.ListN.{length}
 use Rattle.program.specs.Choice.{Answer, fine, refused, _>>=_}
-use Rattle.program.specs.Field.{pairAt}
-use Rattle.program.specs.Layout.{Program, CodeSection, programOf, instructionsAt, threadsAt}
+use Rattle.program.specs.Layout.{CodeSection, programOf, instructionsAt, threadsAt}
 use Rattle.program.specs.Sound.{SoundFile, SoundSection, SoundSections, countAt}
 use Rattle.program.specs.declared.layout.Layout.{Layout}
 use Rattle.program.specs.declared.refusal.Refusal.{Refusal}

@@ -2,14 +2,13 @@
 --     kind-in    a variable of the file: what its record says
 --     kind-out   a number that is no variable of the file
 use Prim.Native.Nat.{ℕ, _+_, _*_, _≤_, _<_}
-use mathlib.Core.Path.{_≡_, ap, sym, _∙_}
+use mathlib.Core.Path.{_≡_, ap}
 use mathlib.Core.List.{List}
 use native.Mathlib.Omega.{arith}
 use lib.ListN.{List·getD-eq-default}
 use Rattle.program.specs.Layout.{programOf, variablesAt}
 use Rattle.program.specs.Variable.{Variable, kindOf, recordAt, variableAt}
 use Rattle.program.specs.declared.layout.Layout.{Layout}
-use Rattle.program.specs.declared.variable.Kind.{Kind}
 use Rattle.program.specs.declared.variable.Kind.the-variants.{Open}
 use Rattle.program.proofs.Contents.{length-variables, getD-variables}
 use Rattle.judge.specs.Discipline.{kindAt}

@@ -1,32 +1,24 @@
 // What an instruction that is no opener or closer may do, what it does to the lock set, and its atomicity (document 01, "Lock
 // discipline", "Atomicities").
-use crate::lock_set::LockSet;
 use crate::lock_set::is_held;
+use crate::lock_set::set_held;
 use atomicity::Atomicity;
 use program::instruction::Instruction;
 use program::layout::Layout;
 use program::refusal::Refusal;
 use program::variable::Kind;
 ghost use mathlib.Core.Path.{_≡_};
-ghost use mathlib.Core.Bool.{false};
 ghost use Prim.Native.Nat.{_+_, _*_, _≤_};
 ghost use lib.ListN.{length};
 ghost use Rattle.program.specs.Choice.{choose};
 ghost use Rattle.program.specs.Layout.{programOf};
 ghost use Rattle.program.specs.declared.refusal.Refusal.the-variants.{Access};
 ghost use Rattle.judge.specs.Discipline.{kindAt, permits, accessAtomicity, locksAfter, atomicityOf};
-ghost use Rattle.judge.specs.declared.lock_set.LockSet.{LockSet};
-ghost use Rattle.judge.specs.Turns.{answerOf, judged, moved};
+ghost use Rattle.judge.specs.Turns.{judged, moved};
 
 pub enum Verdict {
     Allowed,
     Refused(Refusal),
-}
-
-// Whether an instruction is allowed, and if so the lock set after it. (An enum can hold no array, so the set stands beside it.)
-pub struct Locked {
-    pub verdict: Verdict,
-    pub locks: LockSet,
 }
 
 // The kind of variable v. A number that is no variable of the file has none to look up.
@@ -114,69 +106,26 @@ pub fn offence(
     }
 }
 
-// Whether an instruction changes the lock set: the set is copied only where it does.
-pub fn moves(i: Instruction) -> bool
-    ensures { λ r. ⌜ (r ≡ false → (s : LockSet) → moved i s ≡ s) ⌝ }
+// The lock set after an instruction that offends nothing, in place of the one before it.
+pub fn move_locks(i: Instruction, held: &mut [bool; 16])
+    ensures { λ r. ⌜ record { held = now (held .exit) } ≡ moved i (record { held = now (held .entry) }) ⌝ }
 {
     match i {
-        Instruction::Set(_, _) => false,
-        Instruction::Copy(_, _) => false,
-        Instruction::Add(_, _, _) => false,
-        Instruction::Sub(_, _, _) => false,
-        Instruction::Less(_, _, _) => false,
-        Instruction::Read(_, _) => false,
-        Instruction::Write(_, _) => false,
-        Instruction::Take(_) => true,
-        Instruction::Give(_) => true,
-        Instruction::If(_, _) => false,
-        Instruction::Else(_) => false,
-        Instruction::While(_, _) => false,
-        Instruction::Again(_) => false,
-        Instruction::Atomic(_) => false,
-        Instruction::End => false,
-    }
-}
-
-// The lock set after an instruction that offends nothing.
-pub fn move_locks(i: Instruction, locks: LockSet) -> LockSet
-    ensures { λ r. ⌜ r ≡ moved i locks ⌝ }
-{
-    match i {
-        Instruction::Set(_, _) => locks,
-        Instruction::Copy(_, _) => locks,
-        Instruction::Add(_, _, _) => locks,
-        Instruction::Sub(_, _, _) => locks,
-        Instruction::Less(_, _, _) => locks,
-        Instruction::Read(_, _) => locks,
-        Instruction::Write(_, _) => locks,
-        Instruction::Take(k) => locks.with(k),
-        Instruction::Give(k) => locks.without(k),
-        Instruction::If(_, _) => locks,
-        Instruction::Else(_) => locks,
-        Instruction::While(_, _) => locks,
-        Instruction::Again(_) => locks,
-        Instruction::Atomic(_) => locks,
-        Instruction::End => locks,
-    }
-}
-
-// The lock set after an instruction at file offset d, or what it offends.
-pub fn locks_after(
-    s: &[u8],
-    l: Layout,
-    thread: usize,
-    d: usize,
-    i: Instruction,
-    locks: LockSet,
-) -> Locked
-    requires { ⌜ 5 + 6 * l .variables ≤ length (now s) ⌝ }
-    ensures { λ r. ⌜ answerOf r ≡ locksAfter (programOf (now (s .entry)) l) thread d i locks ⌝ }
-{
-    let verdict = offence(s, l, thread, d, i, &locks.held);
-    let after = move_locks(i, locks);
-    Locked {
-        verdict,
-        locks: after,
+        Instruction::Set(_, _) => {}
+        Instruction::Copy(_, _) => {}
+        Instruction::Add(_, _, _) => {}
+        Instruction::Sub(_, _, _) => {}
+        Instruction::Less(_, _, _) => {}
+        Instruction::Read(_, _) => {}
+        Instruction::Write(_, _) => {}
+        Instruction::Take(k) => set_held(held, k, true),
+        Instruction::Give(k) => set_held(held, k, false),
+        Instruction::If(_, _) => {}
+        Instruction::Else(_) => {}
+        Instruction::While(_, _) => {}
+        Instruction::Again(_) => {}
+        Instruction::Atomic(_) => {}
+        Instruction::End => {}
     }
 }
 

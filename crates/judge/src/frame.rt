@@ -1,11 +1,11 @@
 // The constructs that are open where a thread's code is scanned (document 01, "Lock discipline", "Atomicities").
 use crate::lock_set::LockSet;
 use atomicity::Atomicity;
+ghost use mathlib.Core.Path.{_≡_};
+ghost use Rattle.judge.specs.Scan.{noFrame};
 
 // Which part of which construct the scan is in.
 pub enum Part {
-    // A thread's whole code.
-    Whole,
     // Of an IF: what stands before its ELSE.
     Then,
     // Of an IF: what stands after its ELSE.
@@ -27,4 +27,18 @@ pub struct Frame {
     pub first: Atomicity,
     // The atomicity of what stands before the opener in the part around it.
     pub before: Atomicity,
+}
+
+// A frame that nothing reads.
+pub fn no_frame() -> Frame
+    ensures { λ r. ⌜ r ≡ noFrame ⌝ }
+{
+    let locks = LockSet::empty();
+    Frame {
+        part: Part::Block,
+        opener: 0,
+        locks,
+        first: Atomicity::Both,
+        before: Atomicity::Both,
+    }
 }

@@ -1,5 +1,6 @@
 // A whole file judged (document 01, "Who can bring a number about": the sender's part, then the writer's).
 use crate::discipline::Verdict;
+use crate::place::Place;
 use crate::scan::scan_thread;
 use program::layout::Layout;
 use program::layout::Reading;
@@ -34,7 +35,12 @@ fn scan_threads(s: &[u8], l: Layout, report: &mut [u8]) -> Verdict
     while 0 < left {
         let count = code_count(s, field);
         let start = field + 2;
-        let verdict = scan_thread(s, l, thread, start, count, at, &mut *report);
+        let first = Place {
+            thread,
+            d: start,
+            at,
+        };
+        let verdict = scan_thread(s, l, first, count, &mut *report);
         if let Verdict::Refused(refusal) = verdict {
             return Verdict::Refused(refusal);
         }

@@ -3,5 +3,6 @@ pub mod discipline;
 pub mod frame;
 pub mod judging;
 pub mod lock_set;
+pub mod place;
 pub mod scan;
 pub mod turn;

@@ -1,8 +1,8 @@
 // The locks that a thread holds at a place, as its text says (document 01, "Lock discipline").
 ghost use mathlib.Core.Path.{_≡_};
 ghost use mathlib.Core.Bool.{false};
-ghost use lib.ListN.{getD};
-ghost use Rattle.judge.specs.LockSet.{empty, holds, same, sameFlag, withLock, withoutLock};
+ghost use lib.ListN.{getD, set};
+ghost use Rattle.judge.specs.LockSet.{empty, holds, same, sameFlag};
 
 pub struct LockSet {
     pub held: [bool; 16],
@@ -26,6 +26,16 @@ pub fn is_held(held: &[bool], k: u8) -> bool
     false
 }
 
+// A lock in the set with these flags, or out of it. A number past them is no lock of any set.
+pub fn set_held(held: &mut [bool], k: u8, value: bool)
+    ensures { λ r. ⌜ now (held .exit) ≡ set (now (held .entry)) k value ⌝ }
+{
+    let i = k as usize;
+    if i < held.len() {
+        held[i] = value;
+    }
+}
+
 impl LockSet {
     // The lock limit: each lock is below it.
     pub const LIMIT: usize = 16;
@@ -40,26 +50,6 @@ impl LockSet {
         ensures { λ r. ⌜ r ≡ holds self k ⌝ }
     {
         is_held(&self.held, k)
-    }
-
-    pub fn with(mut self, k: u8) -> LockSet
-        ensures { λ r. ⌜ r ≡ withLock self k ⌝ }
-    {
-        let i = k as usize;
-        if i < LockSet::LIMIT {
-            self.held[i] = true;
-        }
-        self
-    }
-
-    pub fn without(mut self, k: u8) -> LockSet
-        ensures { λ r. ⌜ r ≡ withoutLock self k ⌝ }
-    {
-        let i = k as usize;
-        if i < LockSet::LIMIT {
-            self.held[i] = false;
-        }
-        self
     }
 
     pub fn same(self, other: LockSet) -> bool

@@ -2,24 +2,34 @@
 use crate::discipline::Verdict;
 use crate::discipline::atomicity_of;
 use crate::discipline::move_locks;
-use crate::discipline::moves;
 use crate::discipline::offence;
-use crate::frame::Frame;
-use crate::frame::Part;
+use crate::frame::no_frame;
 use crate::lock_set::LockSet;
+use crate::place::Place;
+use crate::turn::Role;
 use crate::turn::Step;
+use crate::turn::role_of;
 use crate::turn::take_turn;
 use atomicity::Atomicity;
-use program::instruction::Form;
-use program::instruction::form_of;
+use program::instruction::Instruction;
 use program::instruction::valid_instruction_at;
 use program::layout::Layout;
 use program::refusal::Refusal;
 ghost use mathlib.Core.Path.{_≡_};
+ghost use mathlib.Core.List.{List};
 ghost use Prim.Native.Nat.{_+_, _*_, _≤_};
 ghost use lib.ListN.{length, set};
 ghost use Rattle.program.specs.Layout.{AllValid, programOf, instructionsAt};
-ghost use Rattle.judge.specs.Scan.{reported, scanThread, wholeFrame};
+ghost use Rattle.judge.specs.Scan.{carried, reported, scanThread};
+ghost use Rattle.judge.specs.Scan as Scan;
+ghost use Rattle.judge.specs.Turns.{passedTo};
+ghost use Rattle.judge.specs.declared.frame.Frame.{Frame};
+
+// What a plain instruction comes to: the atomicity of what was passed of the innermost part, it included, or its offence.
+pub enum Passed {
+    Fine(Atomicity),
+    Refused(Refusal),
+}
 
 // A byte of the report. An index past the buffer's end stores nothing.
 fn put(report: &mut [u8], at: usize, byte: u8)
@@ -30,99 +40,78 @@ fn put(report: &mut [u8], at: usize, byte: u8)
     }
 }
 
-// The part that a thread's whole code is.
-fn whole_frame() -> Frame
-    ensures { λ r. ⌜ r ≡ wholeFrame ⌝ }
-{
-    let locks = LockSet::empty();
-    Frame {
-        part: Part::Whole,
-        opener: 0,
-        locks,
-        first: Atomicity::Both,
-        before: Atomicity::Both,
-    }
-}
-
-// The code of a thread, `count` instructions from file offset `start` on. Its report's bytes stand from `at` on.
-pub fn scan_thread(
+// A plain instruction. The lock set with these flags changes in place, and its byte is put.
+fn pass(
     s: &[u8],
     l: Layout,
-    thread: usize,
-    start: usize,
-    count: usize,
-    at: usize,
+    here: Place,
+    i: Instruction,
+    held: &mut [bool; 16],
+    sofar: Atomicity,
     report: &mut [u8],
-) -> Verdict
-    requires { ⌜ (5 + 6 * l .variables ≤ length (now s)) × (start + 4 * count ≤ length (now s)) × (at + count ≤ 65536)
-        × AllValid (l .locks) (l .variables) (now s) count start ⌝ }
-    ensures { λ r. ⌜ reported r (now (report .exit)) ≡ scanThread (programOf (now (s .entry)) l) thread at (now (report .entry))
-        (record { start = start; code = instructionsAt (l .locks) (l .variables) (now (s .entry)) count start }) ⌝ }
+) -> Passed
+    requires { ⌜ 5 + 6 * l .variables ≤ length (now s) ⌝ }
+    ensures { λ r. ⌜ ((frames : List Frame) → passedTo r (record { held = now (held .exit) }) frames (now (report .exit))
+        ≡ Scan.pass (programOf (now (s .entry)) l) (here .thread) (here .d) (here .at) i
+        (carried (record { held = now (held .entry) }) sofar frames (now (report .entry)))) ⌝ }
 {
-    let whole = whole_frame();
-    // The open frames, outermost first; the innermost is at `depth`.
-    let mut frames = [whole; 17];
+    let verdict = offence(s, l, here.thread, here.d, i, &*held);
+    if let Verdict::Refused(refusal) = verdict {
+        return Passed::Refused(refusal);
+    }
+    let own = atomicity_of(s, l, here.thread, i);
+    put(report, here.at, own.report_byte());
+    move_locks(i, held);
+    Passed::Fine(sofar.then(own))
+}
+
+// The code's end: "A thread's code must end with none".
+fn code_end(here: Place, locks: LockSet, sofar: Atomicity, report: &mut [u8]) -> Verdict
+    ensures { λ r. ⌜ ((frames : List Frame) → reported r (now (report .exit))
+        ≡ Scan.ending (here .d) (here .at) (carried locks sofar frames (now (report .entry)))) ⌝ }
+{
+    if locks.same(LockSet::empty()) {
+        put(report, here.at, sofar.report_byte());
+        return Verdict::Allowed;
+    }
+    Verdict::Refused(Refusal::SetsDiffer(here.d))
+}
+
+// The code of a thread, `count` instructions from a place on. The open frames are elements 1 to `depth` of `frames`, the last innermost.
+pub fn scan_thread(s: &[u8], l: Layout, first: Place, count: usize, report: &mut [u8]) -> Verdict
+    requires { ⌜ (5 + 6 * l .variables ≤ length (now s)) × (first .d + 4 * count ≤ length (now s)) × (first .at + count ≤ 65536)
+        × AllValid (l .locks) (l .variables) (now s) count (first .d) ⌝ }
+    ensures { λ r. ⌜ reported r (now (report .exit)) ≡ scanThread (programOf (now (s .entry)) l) (first .thread) (first .at) (now (report .entry))
+        (record { start = first .d; code = instructionsAt (l .locks) (l .variables) (now (s .entry)) count (first .d) }) ⌝ }
+{
+    let mut frames = [no_frame(); 17];
     let mut depth = 0;
     let mut locks = LockSet::empty();
     let mut sofar = Atomicity::Both;
-    let mut d = start;
-    let mut here = at;
-    let mut left = count;
-    while 0 < left {
-        let offset = d;
-        let place = here;
-        d += 4;
-        here += 1;
-        left -= 1;
-        let i = valid_instruction_at(s, offset);
-        let form = form_of(i);
-        if let Form::Plain = form {
-            let verdict = offence(s, l, thread, offset, i, &locks.held);
-            if let Verdict::Refused(refusal) = verdict {
-                return Verdict::Refused(refusal);
-            }
-            let own = atomicity_of(s, l, thread, i);
-            sofar = sofar.then(own);
-            put(&mut *report, place, own.report_byte());
-            if moves(i) {
-                locks = move_locks(i, locks);
+    let mut p = 0;
+    while p < count {
+        let here = first.plus(p);
+        let i = valid_instruction_at(s, here.d);
+        p += 1;
+        let Role::Marks(mark) = role_of(i) else {
+            match pass(s, l, here, i, &mut locks.held, sofar, &mut *report) {
+                Passed::Fine(next) => sofar = next,
+                Passed::Refused(refusal) => return Verdict::Refused(refusal),
             }
             continue;
-        }
-        let inner = frames[depth];
-        let turn = take_turn(s, l, thread, offset, place, i, locks, sofar, inner);
-        let frame = turn.frame;
+        };
+        put(&mut *report, here.at, 0);
+        let turn = take_turn(mark, here, depth, locks, sofar, frames[depth]);
+        depth = turn.depth;
         locks = turn.locks;
         sofar = turn.sofar;
+        let frame = turn.frame;
         let step = turn.step;
         match step {
-            Step::Pass(byte) => put(&mut *report, place, byte),
-            Step::Open => {
-                if 16 <= depth {
-                    return Verdict::Refused(Refusal::Nesting(offset));
-                }
-                depth += 1;
-                frames[depth] = frame;
-                put(&mut *report, place, 0)
-            }
-            Step::Replace => {
-                frames[depth] = frame;
-                put(&mut *report, place, 0)
-            }
-            Step::Close(opener, byte) => {
-                if depth == 0 {
-                    return Verdict::Refused(Refusal::Nesting(offset));
-                }
-                depth -= 1;
-                put(&mut *report, place, 0);
-                put(&mut *report, opener, byte)
-            }
+            Step::Enter => frames[depth] = frame,
+            Step::Leave(opener, byte) => put(&mut *report, opener, byte),
             Step::Refuse(refusal) => return Verdict::Refused(refusal),
         }
     }
-    if locks.same(LockSet::empty()) {
-        put(report, here, sofar.report_byte());
-        return Verdict::Allowed;
-    }
-    Verdict::Refused(Refusal::SetsDiffer(d))
+    code_end(first.plus(count), locks, sofar, report)
 }

@@ -1,99 +1,96 @@
-// One instruction passed by the scan of a thread's code.
-use crate::discipline::Verdict;
-use crate::discipline::atomicity_of;
-use crate::discipline::locks_after;
+// An opener or a closer passed by the scan of a thread's code.
 use crate::frame::Frame;
 use crate::frame::Part;
+use crate::frame::no_frame;
 use crate::lock_set::LockSet;
+use crate::place::Place;
 use atomicity::Atomicity;
 use program::instruction::Form;
 use program::instruction::Instruction;
 use program::instruction::form_of;
-use program::layout::Layout;
 use program::refusal::Refusal;
 ghost use mathlib.Core.Path.{_≡_};
-ghost use Prim.Native.Nat.{_+_, _*_, _≤_};
-ghost use lib.ListN.{length};
-ghost use Rattle.program.specs.Layout.{programOf};
-ghost use Rattle.judge.specs.Discipline.{atomicityOf, locksAfter};
+ghost use Prim.Native.Nat.{_<_};
+ghost use Rattle.program.specs.Instruction.{formOf};
 ghost use Rattle.judge.specs.Judging.{isTop};
 ghost use Rattle.judge.specs.Scan as Scan;
 
-// What it does to the open frames, and the bytes that it puts into the report.
+// An opener says which part it opens. Which part a closer closes, the innermost frame says: reading has seen to that.
+pub enum Mark {
+    Opens(Part),
+    Closes,
+}
+
+// What the scan sees of an instruction.
+pub enum Role {
+    Plain,
+    Marks(Mark),
+}
+
+// What an opener or a closer does to the open frames.
 pub enum Step {
-    // A plain instruction: its byte.
-    Pass(u8),
-    // An opener: the turn's frame opens.
-    Open,
-    // An ELSE: the turn's frame takes the place of the innermost one.
-    Replace,
-    // A closer: where its opener's byte stands, and that byte. The innermost frame closes.
-    Close(usize, u8),
+    // The turn's frame is the innermost.
+    Enter,
+    // The innermost frame is gone: where its opener's byte stands, and that byte.
+    Leave(usize, u8),
     Refuse(Refusal),
 }
 
-// The lock set and the atomicity so far are those after the instruction.
+// How many frames are open, the lock set, and the atomicity of what was passed of the innermost part are those after it. The frame is
+// read only where it is entered.
 pub struct Turn {
     pub step: Step,
+    pub depth: usize,
     pub locks: LockSet,
     pub sofar: Atomicity,
     pub frame: Frame,
 }
 
-fn refusing(refusal: Refusal, locks: LockSet, sofar: Atomicity, frame: Frame) -> Turn
-    ensures { λ r. ⌜ r ≡ Scan.refusing refusal locks sofar frame ⌝ }
+pub fn role_of(i: Instruction) -> Role
+    ensures { λ r. ⌜ r ≡ Scan.roleOf (formOf i) ⌝ }
 {
+    match form_of(i) {
+        Form::Plain => Role::Plain,
+        Form::If(_, _) => Role::Marks(Mark::Opens(Part::Then)),
+        Form::Else(_) => Role::Marks(Mark::Closes),
+        Form::While(_, _) => Role::Marks(Mark::Opens(Part::Body)),
+        Form::Again(_) => Role::Marks(Mark::Closes),
+        Form::Atomic(_) => Role::Marks(Mark::Opens(Part::Block)),
+        Form::End => Role::Marks(Mark::Closes),
+    }
+}
+
+fn refusing(refusal: Refusal) -> Turn
+    ensures { λ r. ⌜ r ≡ Scan.refusing refusal ⌝ }
+{
+    let locks = LockSet::empty();
+    let frame = no_frame();
     Turn {
         step: Step::Refuse(refusal),
+        depth: 0,
         locks,
-        sofar,
+        sofar: Atomicity::Both,
         frame,
     }
 }
 
-// A plain instruction.
-fn passing(
-    s: &[u8],
-    l: Layout,
-    thread: usize,
-    d: usize,
-    i: Instruction,
-    locks: LockSet,
-    sofar: Atomicity,
-    frame: Frame,
-) -> Turn
-    requires { ⌜ 5 + 6 * l .variables ≤ length (now s) ⌝ }
-    ensures { λ r. ⌜ r ≡ Scan.passing (atomicityOf (programOf (now (s .entry)) l) thread i) locks sofar frame
-        (locksAfter (programOf (now (s .entry)) l) thread d i locks) ⌝ }
+// An opener. "a 17th entry opens": none that reading lets through.
+fn opening(part: Part, here: Place, depth: usize, locks: LockSet, sofar: Atomicity) -> Turn
+    ensures { λ r. ⌜ r ≡ Scan.opening part (here .d) (here .at) depth locks sofar ⌝ }
 {
-    let after = locks_after(s, l, thread, d, i, locks);
-    let verdict = after.verdict;
-    if let Verdict::Refused(refusal) = verdict {
-        return refusing(refusal, locks, sofar, frame);
+    if 16 <= depth {
+        return refusing(Refusal::Nesting(here.d));
     }
-    let held = after.locks;
-    let own = atomicity_of(s, l, thread, i);
-    Turn {
-        step: Step::Pass(own.report_byte()),
-        locks: held,
-        sofar: sofar.then(own),
-        frame,
-    }
-}
-
-// An opener, whose byte stands at `at` in the report.
-fn opening(part: Part, at: usize, locks: LockSet, sofar: Atomicity) -> Turn
-    ensures { λ r. ⌜ r ≡ Scan.opening part at locks sofar ⌝ }
-{
     let frame = Frame {
         part,
-        opener: at,
+        opener: here.at,
         locks,
         first: Atomicity::Both,
         before: sofar,
     };
     Turn {
-        step: Step::Open,
+        step: Step::Enter,
+        depth: depth + 1,
         locks,
         sofar: Atomicity::Both,
         frame,
@@ -101,21 +98,23 @@ fn opening(part: Part, at: usize, locks: LockSet, sofar: Atomicity) -> Turn
 }
 
 // A construct of this atomicity ends.
-fn closing(own: Atomicity, locks: LockSet, frame: Frame) -> Turn
-    ensures { λ r. ⌜ r ≡ Scan.closing own locks frame ⌝ }
+fn closing(own: Atomicity, depth: usize, locks: LockSet, frame: Frame) -> Turn
+    requires { ⌜ 0 < depth ⌝ }
+    ensures { λ r. ⌜ r ≡ Scan.closing own depth locks frame ⌝ }
 {
     let before = frame.before;
     Turn {
-        step: Step::Close(frame.opener, own.report_byte()),
+        step: Step::Leave(frame.opener, own.report_byte()),
+        depth: depth - 1,
         locks,
         sofar: before.then(own),
         frame,
     }
 }
 
-// An ELSE of a then part.
-fn else_part(locks: LockSet, sofar: Atomicity, frame: Frame) -> Turn
-    ensures { λ r. ⌜ r ≡ Scan.elsePart locks sofar frame ⌝ }
+// The ELSE of an IF.
+fn then_end(depth: usize, locks: LockSet, sofar: Atomicity, frame: Frame) -> Turn
+    ensures { λ r. ⌜ r ≡ Scan.thenEnd depth locks sofar frame ⌝ }
 {
     let at_if = frame.locks;
     let before = frame.before;
@@ -127,7 +126,8 @@ fn else_part(locks: LockSet, sofar: Atomicity, frame: Frame) -> Turn
         before,
     };
     Turn {
-        step: Step::Replace,
+        step: Step::Enter,
+        depth,
         locks: at_if,
         sofar: Atomicity::Both,
         frame: other,
@@ -135,26 +135,28 @@ fn else_part(locks: LockSet, sofar: Atomicity, frame: Frame) -> Turn
 }
 
 // The END of an IF.
-fn choice_end(d: usize, locks: LockSet, sofar: Atomicity, frame: Frame) -> Turn
-    ensures { λ r. ⌜ r ≡ Scan.choiceEnd d locks sofar frame ⌝ }
+fn else_end(d: usize, depth: usize, locks: LockSet, sofar: Atomicity, frame: Frame) -> Turn
+    requires { ⌜ 0 < depth ⌝ }
+    ensures { λ r. ⌜ r ≡ Scan.elseEnd d depth locks sofar frame ⌝ }
 {
     let then_locks = frame.locks;
     let first = frame.first;
     if then_locks.same(locks) {
-        return closing(first.join(sofar), then_locks, frame);
+        return closing(first.join(sofar), depth, then_locks, frame);
     }
-    refusing(Refusal::SetsDiffer(d), locks, sofar, frame)
+    refusing(Refusal::SetsDiffer(d))
 }
 
 // The AGAIN of a WHILE.
-fn loop_end(d: usize, locks: LockSet, sofar: Atomicity, frame: Frame) -> Turn
-    ensures { λ r. ⌜ r ≡ Scan.loopEnd d locks sofar frame ⌝ }
+fn body_end(d: usize, depth: usize, locks: LockSet, sofar: Atomicity, frame: Frame) -> Turn
+    requires { ⌜ 0 < depth ⌝ }
+    ensures { λ r. ⌜ r ≡ Scan.bodyEnd d depth locks sofar frame ⌝ }
 {
     let at_while = frame.locks;
     if at_while.same(locks) {
-        return closing(sofar.closure(), at_while, frame);
+        return closing(sofar.closure(), depth, at_while, frame);
     }
-    refusing(Refusal::SetsDiffer(d), locks, sofar, frame)
+    refusing(Refusal::SetsDiffer(d))
 }
 
 fn is_top(a: Atomicity) -> bool
@@ -164,78 +166,45 @@ fn is_top(a: Atomicity) -> bool
 }
 
 // The END of an ATOMIC.
-fn block_end(d: usize, locks: LockSet, sofar: Atomicity, frame: Frame) -> Turn
-    ensures { λ r. ⌜ r ≡ Scan.blockEnd d locks sofar frame ⌝ }
+fn block_end(d: usize, depth: usize, locks: LockSet, sofar: Atomicity, frame: Frame) -> Turn
+    requires { ⌜ 0 < depth ⌝ }
+    ensures { λ r. ⌜ r ≡ Scan.blockEnd d depth locks sofar frame ⌝ }
 {
     if is_top(sofar) {
-        return refusing(Refusal::NotAtomic(d), locks, sofar, frame);
+        return refusing(Refusal::NotAtomic(d));
     }
-    closing(sofar, locks, frame)
+    closing(sofar, depth, locks, frame)
 }
 
-// The closers. One that is of the wrong kind for its part is none that reading lets through.
-fn at_else(d: usize, locks: LockSet, sofar: Atomicity, frame: Frame) -> Turn
-    ensures { λ r. ⌜ r ≡ Scan.atElse (frame .part) d locks sofar frame ⌝ }
+// A closer. One with no open frame is none that reading lets through.
+fn part_end(d: usize, depth: usize, locks: LockSet, sofar: Atomicity, frame: Frame) -> Turn
+    ensures { λ r. ⌜ r ≡ Scan.partEnd d depth locks sofar frame ⌝ }
 {
+    if depth == 0 {
+        return refusing(Refusal::Nesting(d));
+    }
     let part = frame.part;
     match part {
-        Part::Whole => refusing(Refusal::Nesting(d), locks, sofar, frame),
-        Part::Then => else_part(locks, sofar, frame),
-        Part::Else => refusing(Refusal::Nesting(d), locks, sofar, frame),
-        Part::Body => refusing(Refusal::Nesting(d), locks, sofar, frame),
-        Part::Block => refusing(Refusal::Nesting(d), locks, sofar, frame),
+        Part::Then => then_end(depth, locks, sofar, frame),
+        Part::Else => else_end(d, depth, locks, sofar, frame),
+        Part::Body => body_end(d, depth, locks, sofar, frame),
+        Part::Block => block_end(d, depth, locks, sofar, frame),
     }
 }
 
-fn at_again(d: usize, locks: LockSet, sofar: Atomicity, frame: Frame) -> Turn
-    ensures { λ r. ⌜ r ≡ Scan.atAgain (frame .part) d locks sofar frame ⌝ }
-{
-    let part = frame.part;
-    match part {
-        Part::Whole => refusing(Refusal::Nesting(d), locks, sofar, frame),
-        Part::Then => refusing(Refusal::Nesting(d), locks, sofar, frame),
-        Part::Else => refusing(Refusal::Nesting(d), locks, sofar, frame),
-        Part::Body => loop_end(d, locks, sofar, frame),
-        Part::Block => refusing(Refusal::Nesting(d), locks, sofar, frame),
-    }
-}
-
-fn at_end(d: usize, locks: LockSet, sofar: Atomicity, frame: Frame) -> Turn
-    ensures { λ r. ⌜ r ≡ Scan.atEnd (frame .part) d locks sofar frame ⌝ }
-{
-    let part = frame.part;
-    match part {
-        Part::Whole => refusing(Refusal::Nesting(d), locks, sofar, frame),
-        Part::Then => refusing(Refusal::Nesting(d), locks, sofar, frame),
-        Part::Else => choice_end(d, locks, sofar, frame),
-        Part::Body => refusing(Refusal::Nesting(d), locks, sofar, frame),
-        Part::Block => block_end(d, locks, sofar, frame),
-    }
-}
-
-// The instruction at file offset d, whose byte stands at `at` in the report.
+// An opener or a closer, where `depth` frames are open, this one innermost.
 pub fn take_turn(
-    s: &[u8],
-    l: Layout,
-    thread: usize,
-    d: usize,
-    at: usize,
-    i: Instruction,
+    mark: Mark,
+    here: Place,
+    depth: usize,
     locks: LockSet,
     sofar: Atomicity,
     frame: Frame,
 ) -> Turn
-    requires { ⌜ 5 + 6 * l .variables ≤ length (now s) ⌝ }
-    ensures { λ r. ⌜ r ≡ Scan.turn (programOf (now (s .entry)) l) thread d at i locks sofar frame ⌝ }
+    ensures { λ r. ⌜ r ≡ Scan.turn mark (here .d) (here .at) depth locks sofar frame ⌝ }
 {
-    let form = form_of(i);
-    match form {
-        Form::Plain => passing(s, l, thread, d, i, locks, sofar, frame),
-        Form::If(_, _) => opening(Part::Then, at, locks, sofar),
-        Form::Else(_) => at_else(d, locks, sofar, frame),
-        Form::While(_, _) => opening(Part::Body, at, locks, sofar),
-        Form::Again(_) => at_again(d, locks, sofar, frame),
-        Form::Atomic(_) => opening(Part::Block, at, locks, sofar),
-        Form::End => at_end(d, locks, sofar, frame),
+    match mark {
+        Mark::Opens(part) => opening(part, here, depth, locks, sofar),
+        Mark::Closes => part_end(here.d, depth, locks, sofar, frame),
     }
 }

@@ -11,7 +11,7 @@ ghost use lib.ListN.{length, getD};
 ghost use Rattle.program.specs.Nesting.{unnamed, opening, passing, atElse, atAgain, atEnd, nest, firstBroken};
 ghost use Rattle.program.specs.Nesting as Nesting;
 ghost use Rattle.program.specs.Layout.{AllValid, instructionsAt, offsetFrom};
-ghost use Rattle.program.specs.Stack.{under, Right, Room, entriesOf, entriesAfter, depthAfter};
+ghost use Rattle.program.specs.Stack.{under, Right, entriesOf};
 
 // The entries that openers open. Each names the place of its closer.
 pub enum Entry {

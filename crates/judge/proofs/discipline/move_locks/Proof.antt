@@ -1,5 +1,6 @@
 -- `move_locks` meets its contract. Assumes nothing.
 use borrow.Author.Needs.{needs}
+use Rattle.judge.specs.LockSet.{withLock, withoutLock}
 use Rattle.judge.specs.Turns.{moved}
 use Rattle.judge.proofs.discipline.move_locks.Statement.{statement}
 use Rattle.judge.proofs.discipline.move_locks.Tie as tie
@@ -28,14 +29,14 @@ enum-told-7 c = search needs
 enum-known-i : tie.Need-enum-known-i
 enum-known-i c = search needs
 
-with-requires : tie.Need-with-requires
-with-requires c κs = search needs
+set-held-requires : tie.Need-set-held-requires
+set-held-requires c κs = search needs
 
 enum-known-i-2 : tie.Need-enum-known-i-2
 enum-known-i-2 c = search needs
 
-without-requires : tie.Need-without-requires
-without-requires c κs = search needs
+set-held-requires-2 : tie.Need-set-held-requires-2
+set-held-requires-2 c κs = search needs
 
 enum-told-8 : tie.Need-enum-told-8
 enum-told-8 c = search needs
@@ -84,12 +85,12 @@ unfolding moved
 returns-7 c = rw (c .enum-told7 .given .1)
 
 returns-8 : tie.Need-returns-8
-unfolding moved
-returns-8 c = rw (c .with .ensures, c .before .before .i .given .1)
+unfolding moved withLock
+returns-8 c = rw (c .set-held .ensures, c .before .before .before .i .given .1)
 
 returns-9 : tie.Need-returns-9
-unfolding moved
-returns-9 c = rw (c .without .ensures, c .before .before .i2 .given .1)
+unfolding moved withoutLock
+returns-9 c = rw (c .set-held2 .ensures, c .before .before .before .i2 .given .1)
 
 returns-10 : tie.Need-returns-10
 unfolding moved
@@ -127,9 +128,9 @@ move-locks-spec =
     enum-told-6
     enum-told-7
     enum-known-i
-    with-requires
+    set-held-requires
     enum-known-i-2
-    without-requires
+    set-held-requires-2
     enum-told-8
     enum-told-9
     enum-told-10

@@ -30,7 +30,7 @@ next-section c =
 scanned : (m : tie.After-scan-thread Inv-loop μ-loop)
     → let args = m .before .before .before .before .before .before .before .before .args in
     let loop = m .before .before .before .before .loop in
-    reported (m .scan-thread .result) (m .scan-thread .last .1 .1 .1 .1 .1 .1 .0)
+    reported (m .scan-thread .result) (m .scan-thread .last .1 .1 .1 .1 .0)
     ≡ scanThread (programOf (args .s .now) (args .l)) (loop .thread) (loop .at) (loop .report) (sectionAt (args .s .now) (args .l) (args .report .now) (loop .field))
 scanned m =
     let args = m .before .before .before .before .before .before .before .before .args in
@@ -65,7 +65,7 @@ enum-known-verdict : tie.Need-enum-known-verdict Inv-loop μ-loop
 enum-known-verdict c = search needs
 
 same-length : tie.Need-same-length Inv-loop μ-loop
-same-length c = c .before .before .before .before .before .scan-thread .kept .1 .1 .1 .1 .1 .1 .0 ∙ c .before .before .before .before .before .before .before .before .before .loop .inv .kept
+same-length c = c .before .before .before .before .before .scan-thread .kept .1 .1 .1 .1 .0 ∙ c .before .before .before .before .before .before .before .before .before .loop .inv .kept
 
 returns : tie.Need-returns Inv-loop μ-loop
 returns c =
@@ -122,7 +122,7 @@ loop-again c =
     let loop = c .before .before .before .before .before .before .before .before .loop in
     rw (c .before .before .before .before .before .before .code-count .ensures)
     (next-thread (args .s .now) (args .l) (args .report .now) (loop .report) (loop .thread) (loop .at) (loop .field) (loop .left) (loop .inv) (c .before .before .before .before .before .before .before .loop-test .taken)
-    (c .before .before .before .before .scan-thread .last .1 .1 .1 .1 .1 .1 .0) (c .before .before .before .before .scan-thread .kept .1 .1 .1 .1 .1 .1 .0) (rw (c .enum-told .given .1) at (scanned (c .before .before .before .before))))
+    (c .before .before .before .before .scan-thread .last .1 .1 .1 .1 .0) (c .before .before .before .before .scan-thread .kept .1 .1 .1 .1 .0) (rw (c .enum-told .given .1) at (scanned (c .before .before .before .before))))
 
 same-length-2 : tie.Need-same-length-2 Inv-loop μ-loop
 same-length-2 c = c .before .loop .inv .kept

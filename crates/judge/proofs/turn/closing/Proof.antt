@@ -6,6 +6,9 @@ use Rattle.judge.proofs.turn.closing.Tie as tie
 report-byte-requires : tie.Need-report-byte-requires
 report-byte-requires c κs = search needs
 
+sub-t8 : tie.Need-sub-t8
+sub-t8 c = search needs
+
 then-requires : tie.Need-then-requires
 then-requires c κs = search needs
 
@@ -13,4 +16,4 @@ returns : tie.Need-returns
 returns c = rw (c .then .ensures, c .before .report-byte .ensures)
 
 pub closing-spec : {M : Type 1} → statement M
-closing-spec = tie.close (tie.spec report-byte-requires then-requires returns)
+closing-spec = tie.close (tie.spec report-byte-requires sub-t8 then-requires returns)

@@ -1,6 +1,5 @@
 -- `innermost` meets its contract. Assumes nothing.
 use native.Mathlib.Omega.{arith}
-use borrow.Author.Needs.{needs}
 use Rattle.program.specs.Stack.{entriesOf}
 use Rattle.program.proofs.Stack.{entries-top}
 use Rattle.program.proofs.nesting.innermost.Statement.{statement}

@@ -1,7 +1,7 @@
--- `loop_end` meets its contract. Assumes nothing.
+-- `body_end` meets its contract. Assumes nothing.
 use borrow.Author.Needs.{needs}
-use Rattle.judge.proofs.turn.loop_end.Statement.{statement}
-use Rattle.judge.proofs.turn.loop_end.Tie as tie
+use Rattle.judge.proofs.turn.body_end.Statement.{statement}
+use Rattle.judge.proofs.turn.body_end.Tie as tie
 
 same-requires : tie.Need-same-requires
 same-requires c κs = search needs
@@ -21,7 +21,7 @@ refusing-requires c κs = search needs
 returns-2 : tie.Need-returns-2
 returns-2 c = rw (c .refusing .ensures, ← c .before .before .same .ensures, c .before .if1 .left)
 
-pub loop-end-spec : {M : Type 1} → statement M
-loop-end-spec =
+pub body-end-spec : {M : Type 1} → statement M
+body-end-spec =
     tie.close
     (tie.spec same-requires closure-requires closing-requires returns refusing-requires returns-2)

@@ -1,7 +1,7 @@
--- `choice_end` meets its contract. Assumes nothing.
+-- `else_end` meets its contract. Assumes nothing.
 use borrow.Author.Needs.{needs}
-use Rattle.judge.proofs.turn.choice_end.Statement.{statement}
-use Rattle.judge.proofs.turn.choice_end.Tie as tie
+use Rattle.judge.proofs.turn.else_end.Statement.{statement}
+use Rattle.judge.proofs.turn.else_end.Tie as tie
 
 same-requires : tie.Need-same-requires
 same-requires c κs = search needs
@@ -21,7 +21,7 @@ refusing-requires c κs = search needs
 returns-2 : tie.Need-returns-2
 returns-2 c = rw (c .refusing .ensures, ← c .before .before .same .ensures, c .before .if1 .left)
 
-pub choice-end-spec : {M : Type 1} → statement M
-choice-end-spec =
+pub else-end-spec : {M : Type 1} → statement M
+else-end-spec =
     tie.close
     (tie.spec same-requires join-requires closing-requires returns refusing-requires returns-2)

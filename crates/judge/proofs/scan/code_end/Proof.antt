@@ -1,0 +1,46 @@
+-- `code_end` meets its contract. Assumes nothing.
+use borrow.Author.Needs.{needs}
+use mathlib.Core.Path.{sym, _∙_, ap}
+use Rattle.judge.specs.LockSet.{empty, same}
+use Rattle.judge.specs.Scan.{ending}
+use Rattle.judge.proofs.scan.code_end.Statement.{statement}
+use Rattle.judge.proofs.scan.code_end.Tie as tie
+
+empty-requires : tie.Need-empty-requires
+empty-requires c κs = search needs
+
+same-requires : tie.Need-same-requires
+same-requires c κs = search needs
+
+report-byte-requires : tie.Need-report-byte-requires
+report-byte-requires c κs = search needs
+
+put-requires : tie.Need-put-requires
+put-requires c κs = search needs
+
+same-length : tie.Need-same-length
+same-length c = search needs
+
+returns : tie.Need-returns
+unfolding ending
+returns c frames =
+    let none = sym (c .before .before .before .before .before .before .same .ensures ∙ ap (same (c .before .before .before .before .before .before .before .before .before .args .locks)) (c .before .before .before .before .before .before .before .empty .ensures)) ∙ c .before .before .before .before .before .if1 .taken in
+    rw (c .before .before .put .ensures, c .before .before .before .report-byte .ensures, none)
+
+returns-2 : tie.Need-returns-2
+unfolding ending
+returns-2 c frames =
+    let some = sym (c .before .same .ensures ∙ ap (same (c .before .before .before .before .args .locks)) (c .before .before .empty .ensures)) ∙ c .if1 .left in
+    rw some
+
+pub code-end-spec : {M : Type 1} → statement M
+code-end-spec =
+    tie.close
+    (tie.spec
+    empty-requires
+    same-requires
+    report-byte-requires
+    put-requires
+    same-length
+    returns
+    returns-2)

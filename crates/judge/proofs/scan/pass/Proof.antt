@@ -1,0 +1,60 @@
+-- `pass` meets its contract. Assumes nothing.
+use borrow.Author.Needs.{needs}
+use Rattle.judge.specs.Scan.{pass}
+use Rattle.judge.proofs.scan.pass.Statement.{statement}
+use Rattle.judge.proofs.scan.pass.Tie as tie
+
+offence-requires : tie.Need-offence-requires
+offence-requires c κs = search needs
+
+enum-known-verdict : tie.Need-enum-known-verdict
+enum-known-verdict c = search needs
+
+returns : tie.Need-returns
+unfolding pass
+returns c frames =
+    let offends = rw (c .before .verdict .given .1) at (c .before .before .before .offence .ensures) in
+    rw (← offends)
+
+enum-told : tie.Need-enum-told
+enum-told c = search needs
+
+atomicity-of-requires : tie.Need-atomicity-of-requires
+atomicity-of-requires c κs = search needs
+
+report-byte-requires : tie.Need-report-byte-requires
+report-byte-requires c κs = search needs
+
+put-requires : tie.Need-put-requires
+put-requires c κs = search needs
+
+move-locks-requires : tie.Need-move-locks-requires
+move-locks-requires c κs = search needs
+
+then-requires : tie.Need-then-requires
+then-requires c κs = search needs
+
+same-length : tie.Need-same-length
+same-length c = search needs
+
+returns-2 : tie.Need-returns-2
+unfolding pass
+returns-2 c frames =
+    let allows = rw (c .before .before .before .before .before .before .before .before .before .enum-told .given .1) at (c .before .before .before .before .before .before .before .before .before .before .before .offence .ensures) in
+    rw (c .before .move-locks .ensures, c .then .ensures, c .before .before .before .before .before .put .ensures, c .before .before .before .before .before .before .report-byte .ensures, c .before .before .before .before .before .before .before .before .atomicity-of .ensures, ← allows)
+
+pub pass-spec : {M : Type 1} → statement M
+pass-spec =
+    tie.close
+    (tie.spec
+    offence-requires
+    enum-known-verdict
+    returns
+    enum-told
+    atomicity-of-requires
+    report-byte-requires
+    put-requires
+    move-locks-requires
+    then-requires
+    same-length
+    returns-2)
