@@ -2,16 +2,17 @@
 --     flags-of                the flags of a set, by what owning the set tells
 --     same-flag-eq, same-eq   sets that compare as equal are equal
 --     same-self               a set compares as equal to itself
+--     with-out, without-out   a number past the limit changes no set
 --     same-differ, same-next  comparing the flags from k on: they differ at k, or the comparison goes on
 --     same-end                no flag is left
-use Prim.Native.Nat.{ℕ, _+_, _≤_, _<_}
-use mathlib.Core.Path.{_≡_, refl, sym, _∙_}
-use mathlib.Core.Bool.{Bool, true, false, _&&_}
+use Prim.Native.Nat.{ℕ, zero, suc, _+_, _≤_, _<_}
+use mathlib.Core.Path.{_≡_, refl, sym, _∙_, ap}
+use mathlib.Core.Bool.{Bool, true, false, _&&_, not}
 use mathlib.Core.List.{List, [], _∷_, map}
 use lib.ListN.{length, drop, getD, length-map, drop-of-length-le}
-use lib.Seq.{drop-cons}
+use lib.Seq.{drop-cons, set-out}
 use native.Mathlib.Numerals.{add-one}
-use Rattle.judge.specs.LockSet.{sameFlag, sameFlags, same}
+use Rattle.judge.specs.LockSet.{sameFlag, sameFlags, same, withLock, withoutLock}
 use Rattle.judge.specs.declared.lock_set.LockSet.{LockSet}
 
 -- how many flags an array of flags has, from the fact that owning it gives
@@ -57,6 +58,15 @@ flags-self (false ∷ l) = flags-self l
 pub same-self : (s : LockSet) → same s s ≡ true
 unfolding same
 same-self s = flags-self (s .held)
+
+-- a number past the limit changes no set
+pub with-out : (s : LockSet) (k : ℕ) → length (s .held) ≤ k → s ≡ withLock s k
+unfolding withLock
+with-out s k h = sym (ap {B = LockSet} (λ (l : List Bool). record { held = l }) (set-out (s .held) k true h))
+
+pub without-out : (s : LockSet) (k : ℕ) → length (s .held) ≤ k → s ≡ withoutLock s k
+unfolding withoutLock
+without-out s k h = sym (ap {B = LockSet} (λ (l : List Bool). record { held = l }) (set-out (s .held) k false h))
 
 module _ (l m : List Bool) (k : ℕ) where
   -- the flags at k differ

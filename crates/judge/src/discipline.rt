@@ -1,7 +1,6 @@
 // What an instruction that is no opener or closer may do, what it does to the lock set, and its atomicity (document 01, "Lock
 // discipline", "Atomicities").
-use crate::lock_set::is_held;
-use crate::lock_set::set_held;
+use crate::lock_set::LockSet;
 use atomicity::Atomicity;
 use program::instruction::Instruction;
 use program::layout::Layout;
@@ -34,11 +33,11 @@ pub fn kind_of(s: &[u8], l: Layout, v: u8) -> Kind
 }
 
 // Whether a thread that holds these locks may read or write a variable of this kind.
-fn permits(kind: Kind, thread: usize, held: &[bool], writes: bool) -> bool
-    ensures { λ r. ⌜ r ≡ permits kind thread (record { held = now (held .entry) }) writes ⌝ }
+fn permits(kind: Kind, thread: usize, locks: LockSet, writes: bool) -> bool
+    ensures { λ r. ⌜ r ≡ permits kind thread locks writes ⌝ }
 {
     match kind {
-        Kind::Guarded(g) => is_held(held, g),
+        Kind::Guarded(g) => locks.holds(g),
         Kind::Own(g) => (g as usize) == thread,
         Kind::Fixed => !writes,
         Kind::Open => true,
@@ -61,31 +60,30 @@ fn access(
     thread: usize,
     d: usize,
     v: u8,
-    held: &[bool],
+    locks: LockSet,
     writes: bool,
 ) -> Verdict
     requires { ⌜ 5 + 6 * l .variables ≤ length (now s) ⌝ }
-    ensures { λ r. ⌜ r ≡ choose (permits (kindAt (programOf (now (s .entry)) l) v) thread (record { held = now (held .entry) }) writes)
+    ensures { λ r. ⌜ r ≡ choose (permits (kindAt (programOf (now (s .entry)) l) v) thread locks writes)
         Verdict.Allowed (Verdict.Refused (Access d)) ⌝ }
 {
     checked(
-        permits(kind_of(s, l, v), thread, held, writes),
+        permits(kind_of(s, l, v), thread, locks, writes),
         Refusal::Access(d),
     )
 }
 
-// What an instruction at file offset d offends, where the set with these flags is held.
+// What an instruction at file offset d offends, where these locks are held.
 pub fn offence(
     s: &[u8],
     l: Layout,
     thread: usize,
     d: usize,
     i: Instruction,
-    held: &[bool],
+    locks: LockSet,
 ) -> Verdict
     requires { ⌜ 5 + 6 * l .variables ≤ length (now s) ⌝ }
-    ensures { λ r. ⌜ judged r (moved i (record { held = now (held .entry) }))
-        ≡ locksAfter (programOf (now (s .entry)) l) thread d i (record { held = now (held .entry) }) ⌝ }
+    ensures { λ r. ⌜ judged r (moved i locks) ≡ locksAfter (programOf (now (s .entry)) l) thread d i locks ⌝ }
 {
     match i {
         Instruction::Set(_, _) => Verdict::Allowed,
@@ -93,39 +91,16 @@ pub fn offence(
         Instruction::Add(_, _, _) => Verdict::Allowed,
         Instruction::Sub(_, _, _) => Verdict::Allowed,
         Instruction::Less(_, _, _) => Verdict::Allowed,
-        Instruction::Read(_, v) => access(s, l, thread, d, v, held, false),
-        Instruction::Write(_, v) => access(s, l, thread, d, v, held, true),
-        Instruction::Take(k) => checked(!is_held(held, k), Refusal::Taken(d)),
-        Instruction::Give(k) => checked(is_held(held, k), Refusal::NotTaken(d)),
+        Instruction::Read(_, v) => access(s, l, thread, d, v, locks, false),
+        Instruction::Write(_, v) => access(s, l, thread, d, v, locks, true),
+        Instruction::Take(k) => checked(!locks.holds(k), Refusal::Taken(d)),
+        Instruction::Give(k) => checked(locks.holds(k), Refusal::NotTaken(d)),
         Instruction::If(_, _) => Verdict::Allowed,
         Instruction::Else(_) => Verdict::Allowed,
         Instruction::While(_, _) => Verdict::Allowed,
         Instruction::Again(_) => Verdict::Allowed,
         Instruction::Atomic(_) => Verdict::Allowed,
         Instruction::End => Verdict::Allowed,
-    }
-}
-
-// The lock set after an instruction that offends nothing, in place of the one before it.
-pub fn move_locks(i: Instruction, held: &mut [bool; 16])
-    ensures { λ r. ⌜ record { held = now (held .exit) } ≡ moved i (record { held = now (held .entry) }) ⌝ }
-{
-    match i {
-        Instruction::Set(_, _) => {}
-        Instruction::Copy(_, _) => {}
-        Instruction::Add(_, _, _) => {}
-        Instruction::Sub(_, _, _) => {}
-        Instruction::Less(_, _, _) => {}
-        Instruction::Read(_, _) => {}
-        Instruction::Write(_, _) => {}
-        Instruction::Take(k) => set_held(held, k, true),
-        Instruction::Give(k) => set_held(held, k, false),
-        Instruction::If(_, _) => {}
-        Instruction::Else(_) => {}
-        Instruction::While(_, _) => {}
-        Instruction::Again(_) => {}
-        Instruction::Atomic(_) => {}
-        Instruction::End => {}
     }
 }
 

@@ -1,8 +1,6 @@
 // The locks that a thread holds at a place, as its text says (document 01, "Lock discipline").
 ghost use mathlib.Core.Path.{_≡_};
-ghost use mathlib.Core.Bool.{false};
-ghost use lib.ListN.{getD, set};
-ghost use Rattle.judge.specs.LockSet.{empty, holds, same, sameFlag};
+ghost use Rattle.judge.specs.LockSet.{empty, holds, same, sameFlag, withLock, withoutLock};
 
 pub struct LockSet {
     pub held: [bool; 16],
@@ -15,41 +13,48 @@ fn same_flag(a: bool, b: bool) -> bool
     if a { b } else { !b }
 }
 
-// Whether a lock is in the set with these flags. A number past them is no lock of any set.
-pub fn is_held(held: &[bool], k: u8) -> bool
-    ensures { λ r. ⌜ r ≡ getD (now (held .entry)) k false ⌝ }
-{
-    let i = k as usize;
-    if i < held.len() {
-        return held[i];
-    }
-    false
-}
-
-// A lock in the set with these flags, or out of it. A number past them is no lock of any set.
-pub fn set_held(held: &mut [bool], k: u8, value: bool)
-    ensures { λ r. ⌜ now (held .exit) ≡ set (now (held .entry)) k value ⌝ }
-{
-    let i = k as usize;
-    if i < held.len() {
-        held[i] = value;
-    }
-}
-
 impl LockSet {
     // The lock limit: each lock is below it.
     pub const LIMIT: usize = 16;
 
+    // "Each thread starts with no locks held."
     pub fn empty() -> LockSet
         ensures { λ r. ⌜ r ≡ empty ⌝ }
     {
         LockSet { held: [false; 16] }
     }
 
+    // Whether a lock is in the set. A number past the limit is no lock of any set.
     pub fn holds(self, k: u8) -> bool
         ensures { λ r. ⌜ r ≡ holds self k ⌝ }
     {
-        is_held(&self.held, k)
+        let i = k as usize;
+        if i < LockSet::LIMIT {
+            return self.held[i];
+        }
+        false
+    }
+
+    // "TAKE adds its lock"
+    pub fn with(mut self, k: u8) -> LockSet
+        ensures { λ r. ⌜ r ≡ withLock self k ⌝ }
+    {
+        let i = k as usize;
+        if i < LockSet::LIMIT {
+            self.held[i] = true;
+        }
+        self
+    }
+
+    // "GIVE takes it out"
+    pub fn without(mut self, k: u8) -> LockSet
+        ensures { λ r. ⌜ r ≡ withoutLock self k ⌝ }
+    {
+        let i = k as usize;
+        if i < LockSet::LIMIT {
+            self.held[i] = false;
+        }
+        self
     }
 
     pub fn same(self, other: LockSet) -> bool

@@ -1,7 +1,6 @@
 // A thread's code judged in one pass (document 01, "Lock discipline", "Atomicities").
 use crate::discipline::Verdict;
 use crate::discipline::atomicity_of;
-use crate::discipline::move_locks;
 use crate::discipline::offence;
 use crate::frame::no_frame;
 use crate::lock_set::LockSet;
@@ -17,18 +16,46 @@ use program::layout::Layout;
 use program::refusal::Refusal;
 ghost use mathlib.Core.Path.{_≡_};
 ghost use mathlib.Core.List.{List};
-ghost use Prim.Native.Nat.{_+_, _*_, _≤_};
+ghost use Prim.Native.Nat.{ℕ, _+_, _*_, _≤_};
 ghost use lib.ListN.{length, set};
+ghost use Rattle.program.specs.Choice.{fine};
 ghost use Rattle.program.specs.Layout.{AllValid, programOf, instructionsAt};
 ghost use Rattle.judge.specs.Scan.{carried, reported, scanThread};
 ghost use Rattle.judge.specs.Scan as Scan;
-ghost use Rattle.judge.specs.Turns.{passedTo};
+ghost use Rattle.judge.specs.Turns.{passedTo, moved};
+ghost use Rattle.judge.specs.declared.lock_set.LockSet.{LockSet};
 ghost use Rattle.judge.specs.declared.frame.Frame.{Frame};
 
 // What a plain instruction comes to: the atomicity of what was passed of the innermost part, it included, or its offence.
+// The lock set stays, or a lock is added or taken out.
 pub enum Passed {
-    Fine(Atomicity),
+    Stays(Atomicity),
+    Takes(Atomicity, u8),
+    Gives(Atomicity, u8),
     Refused(Refusal),
+}
+
+// What an instruction that offends nothing comes to.
+fn passing(i: Instruction, sofar: Atomicity) -> Passed
+    ensures { λ r. ⌜ ((s : LockSet) (frames : List Frame) (report : List ℕ) → passedTo r s frames report ≡ fine (carried (moved i s) sofar frames report)) ⌝ }
+{
+    match i {
+        Instruction::Set(_, _) => Passed::Stays(sofar),
+        Instruction::Copy(_, _) => Passed::Stays(sofar),
+        Instruction::Add(_, _, _) => Passed::Stays(sofar),
+        Instruction::Sub(_, _, _) => Passed::Stays(sofar),
+        Instruction::Less(_, _, _) => Passed::Stays(sofar),
+        Instruction::Read(_, _) => Passed::Stays(sofar),
+        Instruction::Write(_, _) => Passed::Stays(sofar),
+        Instruction::Take(k) => Passed::Takes(sofar, k),
+        Instruction::Give(k) => Passed::Gives(sofar, k),
+        Instruction::If(_, _) => Passed::Stays(sofar),
+        Instruction::Else(_) => Passed::Stays(sofar),
+        Instruction::While(_, _) => Passed::Stays(sofar),
+        Instruction::Again(_) => Passed::Stays(sofar),
+        Instruction::Atomic(_) => Passed::Stays(sofar),
+        Instruction::End => Passed::Stays(sofar),
+    }
 }
 
 // A byte of the report. An index past the buffer's end stores nothing.
@@ -40,29 +67,27 @@ fn put(report: &mut [u8], at: usize, byte: u8)
     }
 }
 
-// A plain instruction. The lock set with these flags changes in place, and its byte is put.
+// A plain instruction: its byte is put.
 fn pass(
     s: &[u8],
     l: Layout,
     here: Place,
     i: Instruction,
-    held: &mut [bool; 16],
+    locks: LockSet,
     sofar: Atomicity,
     report: &mut [u8],
 ) -> Passed
     requires { ⌜ 5 + 6 * l .variables ≤ length (now s) ⌝ }
-    ensures { λ r. ⌜ ((frames : List Frame) → passedTo r (record { held = now (held .exit) }) frames (now (report .exit))
-        ≡ Scan.pass (programOf (now (s .entry)) l) (here .thread) (here .d) (here .at) i
-        (carried (record { held = now (held .entry) }) sofar frames (now (report .entry)))) ⌝ }
+    ensures { λ r. ⌜ ((frames : List Frame) → passedTo r locks frames (now (report .exit))
+        ≡ Scan.pass (programOf (now (s .entry)) l) (here .thread) (here .d) (here .at) i (carried locks sofar frames (now (report .entry)))) ⌝ }
 {
-    let verdict = offence(s, l, here.thread, here.d, i, &*held);
+    let verdict = offence(s, l, here.thread, here.d, i, locks);
     if let Verdict::Refused(refusal) = verdict {
         return Passed::Refused(refusal);
     }
     let own = atomicity_of(s, l, here.thread, i);
     put(report, here.at, own.report_byte());
-    move_locks(i, held);
-    Passed::Fine(sofar.then(own))
+    passing(i, sofar.then(own))
 }
 
 // The code's end: "A thread's code must end with none".
@@ -94,8 +119,16 @@ pub fn scan_thread(s: &[u8], l: Layout, first: Place, count: usize, report: &mut
         let i = valid_instruction_at(s, here.d);
         p += 1;
         let Role::Marks(mark) = role_of(i) else {
-            match pass(s, l, here, i, &mut locks.held, sofar, &mut *report) {
-                Passed::Fine(next) => sofar = next,
+            match pass(s, l, here, i, locks, sofar, &mut *report) {
+                Passed::Stays(next) => sofar = next,
+                Passed::Takes(next, k) => {
+                    sofar = next;
+                    locks = locks.with(k);
+                }
+                Passed::Gives(next, k) => {
+                    sofar = next;
+                    locks = locks.without(k);
+                }
                 Passed::Refused(refusal) => return Verdict::Refused(refusal),
             }
             continue;

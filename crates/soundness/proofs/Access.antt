@@ -11,7 +11,8 @@ use Rattle.program.specs.Choice.{fine, refused, choose}
 use Rattle.program.specs.Layout.{Program}
 use Rattle.program.specs.declared.instruction.Instruction.{Instruction}
 use Rattle.program.specs.declared.refusal.Refusal.{Refusal}
-use Rattle.soundness.specs.Access.{Permitted, none-permitted, read-permitted, write-permitted, take-permitted, give-permitted, setAfter}
+use Rattle.judge.specs.Turns.{setAfter}
+use Rattle.soundness.specs.Access.{Permitted, none-permitted, read-permitted, write-permitted, take-permitted, give-permitted}
 use Rattle.judge.specs.Rules.{Legal}
 
 -- a test that must hold, or must not

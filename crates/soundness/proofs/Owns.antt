@@ -16,7 +16,8 @@ use Rattle.judge.specs.declared.lock_set.LockSet.{LockSet}
 use Rattle.program.specs.Access.{Access, none, reads, writes, takes, gives}
 use Rattle.machine.specs.Step.{waits, locksAfter}
 use Rattle.program.specs.Layout.{Program}
-use Rattle.soundness.specs.Access.{Permitted, give-permitted, setAfter, TakesBelow, Owns}
+use Rattle.judge.specs.Turns.{setAfter}
+use Rattle.soundness.specs.Access.{Permitted, give-permitted, TakesBelow, Owns}
 
 -- a lock that a TAKE may take is free
 pub take-free : (k : ℕ) (ks : List ℕ) → waits (takes k) ks ≡ false → getD ks k 0 ≡ 0

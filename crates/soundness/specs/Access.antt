@@ -10,7 +10,7 @@ use Rattle.atomicity.specs.Atomicity.{atMost}
 use Rattle.atomicity.specs.declared.Atomicity.{Atomicity}
 use Rattle.atomicity.specs.declared.Atomicity.the-variants.{Left, Right}
 use Rattle.judge.specs.Discipline.{kindAt, permits}
-use Rattle.judge.specs.LockSet.{holds, withLock, withoutLock}
+use Rattle.judge.specs.LockSet.{holds}
 use Rattle.judge.specs.declared.lock_set.LockSet.{LockSet}
 use Rattle.program.specs.Access.{Access, none, reads, writes, takes, gives}
 use Rattle.machine.specs.Step.{waits, valueRead, variablesAfter, locksAfter}
@@ -23,14 +23,6 @@ pub data Permitted (p : Program) (t : ℕ) (s : LockSet) : Access → Type 0 whe
   write-permitted : {v a : ℕ} → permits (kindAt p v) t s true ≡ true → Permitted p t s (writes v a)
   take-permitted : {k : ℕ} → Permitted p t s (takes k)
   give-permitted : {k : ℕ} → holds s k ≡ true → Permitted p t s (gives k)
-
--- the lock set behind it
-unfoldable pub setAfter : Access → LockSet → LockSet
-setAfter none s = s
-setAfter (reads v) s = s
-setAfter (writes v a) s = s
-setAfter (takes k) s = withLock s k
-setAfter (gives k) s = withoutLock s k
 
 -- the lock that it takes is one of n
 unfoldable pub TakesBelow : ℕ → Access → Type 0

@@ -6,7 +6,7 @@ use Rattle.program.specs.Layout.{programOf}
 use Rattle.program.specs.declared.refusal.Refusal.the-variants.{Access, Taken, NotTaken}
 use Rattle.judge.specs.Discipline.{kindAt, permits, lockSetAfter, locksAfter}
 use Rattle.judge.specs.LockSet.{holds, withLock, withoutLock}
-use Rattle.judge.specs.Turns.{moved}
+use Rattle.judge.specs.Turns.{setAfter, moved}
 use Rattle.judge.proofs.Answers.{judged-choose, judged-not}
 use Rattle.judge.proofs.discipline.offence.Statement.{statement}
 use Rattle.judge.proofs.discipline.offence.Tie as tie
@@ -41,8 +41,8 @@ access-requires-2 c κs = search needs
 enum-known-i-3 : tie.Need-enum-known-i-3
 enum-known-i-3 c = search needs
 
-is-held-requires : tie.Need-is-held-requires
-is-held-requires c κs = search needs
+holds-requires : tie.Need-holds-requires
+holds-requires c κs = search needs
 
 checked-requires : tie.Need-checked-requires
 checked-requires c κs = search needs
@@ -50,8 +50,8 @@ checked-requires c κs = search needs
 enum-known-i-4 : tie.Need-enum-known-i-4
 enum-known-i-4 c = search needs
 
-is-held-requires-2 : tie.Need-is-held-requires-2
-is-held-requires-2 c κs = search needs
+holds-requires-2 : tie.Need-holds-requires-2
+holds-requires-2 c κs = search needs
 
 checked-requires-2 : tie.Need-checked-requires-2
 checked-requires-2 c κs = search needs
@@ -75,79 +75,79 @@ enum-told-11 : tie.Need-enum-told-11
 enum-told-11 c = search needs
 
 returns : tie.Need-returns
-unfolding locksAfter lockSetAfter accessOf moved
+unfolding locksAfter lockSetAfter accessOf moved setAfter
 returns c = rw (c .enum-told .given .1)
 
 returns-2 : tie.Need-returns-2
-unfolding locksAfter lockSetAfter accessOf moved
+unfolding locksAfter lockSetAfter accessOf moved setAfter
 returns-2 c = rw (c .enum-told2 .given .1)
 
 returns-3 : tie.Need-returns-3
-unfolding locksAfter lockSetAfter accessOf moved
+unfolding locksAfter lockSetAfter accessOf moved setAfter
 returns-3 c = rw (c .enum-told3 .given .1)
 
 returns-4 : tie.Need-returns-4
-unfolding locksAfter lockSetAfter accessOf moved
+unfolding locksAfter lockSetAfter accessOf moved setAfter
 returns-4 c = rw (c .enum-told4 .given .1)
 
 returns-5 : tie.Need-returns-5
-unfolding locksAfter lockSetAfter accessOf moved
+unfolding locksAfter lockSetAfter accessOf moved setAfter
 returns-5 c = rw (c .enum-told5 .given .1)
 
 returns-6 : tie.Need-returns-6
-unfolding locksAfter lockSetAfter accessOf moved
+unfolding locksAfter lockSetAfter accessOf moved setAfter
 returns-6 c =
-    let args = c .before .before .before .before .before .before .args in
+    let args = c .before .before .before .before .before .args in
     let i = c .before .before .i .given .0 in
     rw (c .access .ensures, c .before .before .i .given .1)
-    (judged-choose (permits (kindAt (programOf (args .s .now) (args .l)) (i .1 .0)) (args .thread) (record { held = args .held .now }) false) (Access (args .d)) (record { held = args .held .now }))
+    (judged-choose (permits (kindAt (programOf (args .s .now) (args .l)) (i .1 .0)) (args .thread) (args .locks) false) (Access (args .d)) (args .locks))
 
 returns-7 : tie.Need-returns-7
-unfolding locksAfter lockSetAfter accessOf moved
+unfolding locksAfter lockSetAfter accessOf moved setAfter
 returns-7 c =
-    let args = c .before .before .before .before .before .before .args in
+    let args = c .before .before .before .before .before .args in
     let i = c .before .before .i2 .given .0 in
     rw (c .access2 .ensures, c .before .before .i2 .given .1)
-    (judged-choose (permits (kindAt (programOf (args .s .now) (args .l)) (i .1 .0)) (args .thread) (record { held = args .held .now }) true) (Access (args .d)) (record { held = args .held .now }))
+    (judged-choose (permits (kindAt (programOf (args .s .now) (args .l)) (i .1 .0)) (args .thread) (args .locks) true) (Access (args .d)) (args .locks))
 
 returns-8 : tie.Need-returns-8
-unfolding locksAfter lockSetAfter accessOf moved holds
+unfolding locksAfter lockSetAfter accessOf moved setAfter
 returns-8 c =
-    let args = c .before .before .before .before .before .before .before .args in
+    let args = c .before .before .before .before .before .before .args in
     let i = c .before .before .before .i3 .given .0 in
-    rw (c .checked .ensures, c .before .is-held .ensures, c .before .before .before .i3 .given .1)
-    (judged-not (holds (record { held = args .held .now }) (i .0)) (Taken (args .d)) (withLock (record { held = args .held .now }) (i .0)))
+    rw (c .checked .ensures, c .before .holds .ensures, c .before .before .before .i3 .given .1)
+    (judged-not (holds (args .locks) (i .0)) (Taken (args .d)) (withLock (args .locks) (i .0)))
 
 returns-9 : tie.Need-returns-9
-unfolding locksAfter lockSetAfter accessOf moved holds
+unfolding locksAfter lockSetAfter accessOf moved setAfter
 returns-9 c =
-    let args = c .before .before .before .before .before .before .before .args in
+    let args = c .before .before .before .before .before .before .args in
     let i = c .before .before .before .i4 .given .0 in
-    rw (c .checked2 .ensures, c .before .is-held2 .ensures, c .before .before .before .i4 .given .1)
-    (judged-choose (holds (record { held = args .held .now }) (i .0)) (NotTaken (args .d)) (withoutLock (record { held = args .held .now }) (i .0)))
+    rw (c .checked2 .ensures, c .before .holds2 .ensures, c .before .before .before .i4 .given .1)
+    (judged-choose (holds (args .locks) (i .0)) (NotTaken (args .d)) (withoutLock (args .locks) (i .0)))
 
 returns-10 : tie.Need-returns-10
-unfolding locksAfter lockSetAfter accessOf moved
+unfolding locksAfter lockSetAfter accessOf moved setAfter
 returns-10 c = rw (c .enum-told6 .given .1)
 
 returns-11 : tie.Need-returns-11
-unfolding locksAfter lockSetAfter accessOf moved
+unfolding locksAfter lockSetAfter accessOf moved setAfter
 returns-11 c = rw (c .enum-told7 .given .1)
 
 returns-12 : tie.Need-returns-12
-unfolding locksAfter lockSetAfter accessOf moved
+unfolding locksAfter lockSetAfter accessOf moved setAfter
 returns-12 c = rw (c .enum-told8 .given .1)
 
 returns-13 : tie.Need-returns-13
-unfolding locksAfter lockSetAfter accessOf moved
+unfolding locksAfter lockSetAfter accessOf moved setAfter
 returns-13 c = rw (c .enum-told9 .given .1)
 
 returns-14 : tie.Need-returns-14
-unfolding locksAfter lockSetAfter accessOf moved
+unfolding locksAfter lockSetAfter accessOf moved setAfter
 returns-14 c = rw (c .enum-told10 .given .1)
 
 returns-15 : tie.Need-returns-15
-unfolding locksAfter lockSetAfter accessOf moved
+unfolding locksAfter lockSetAfter accessOf moved setAfter
 returns-15 c = rw (c .enum-told11 .given .1)
 
 pub offence-spec : {M : Type 1} → statement M
@@ -164,10 +164,10 @@ offence-spec =
     enum-known-i-2
     access-requires-2
     enum-known-i-3
-    is-held-requires
+    holds-requires
     checked-requires
     enum-known-i-4
-    is-held-requires-2
+    holds-requires-2
     checked-requires-2
     enum-told-6
     enum-told-7

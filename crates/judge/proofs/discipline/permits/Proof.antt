@@ -1,15 +1,14 @@
 -- `permits` meets its contract. Assumes nothing.
 use borrow.Author.Needs.{needs}
 use Rattle.judge.specs.Discipline.{permits}
-use Rattle.judge.specs.LockSet.{holds}
 use Rattle.judge.proofs.discipline.permits.Statement.{statement}
 use Rattle.judge.proofs.discipline.permits.Tie as tie
 
 enum-known-kind : tie.Need-enum-known-kind
 enum-known-kind c = search needs
 
-is-held-requires : tie.Need-is-held-requires
-is-held-requires c κs = search needs
+holds-requires : tie.Need-holds-requires
+holds-requires c κs = search needs
 
 enum-known-kind-2 : tie.Need-enum-known-kind-2
 enum-known-kind-2 c = search needs
@@ -24,8 +23,8 @@ enum-told-2 : tie.Need-enum-told-2
 enum-told-2 c = search needs
 
 returns : tie.Need-returns
-unfolding permits holds
-returns c = rw (c .is-held .ensures, c .before .before .kind .given .1)
+unfolding permits
+returns c = rw (c .holds .ensures, c .before .before .kind .given .1)
 
 returns-2 : tie.Need-returns-2
 unfolding permits
@@ -44,7 +43,7 @@ permits-spec =
     tie.close
     (tie.spec
     enum-known-kind
-    is-held-requires
+    holds-requires
     enum-known-kind-2
     cast-result
     enum-told

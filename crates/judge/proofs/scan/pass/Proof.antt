@@ -28,11 +28,11 @@ report-byte-requires c κs = search needs
 put-requires : tie.Need-put-requires
 put-requires c κs = search needs
 
-move-locks-requires : tie.Need-move-locks-requires
-move-locks-requires c κs = search needs
-
 then-requires : tie.Need-then-requires
 then-requires c κs = search needs
+
+passing-requires : tie.Need-passing-requires
+passing-requires c κs = search needs
 
 same-length : tie.Need-same-length
 same-length c = search needs
@@ -40,8 +40,8 @@ same-length c = search needs
 returns-2 : tie.Need-returns-2
 unfolding pass
 returns-2 c frames =
-    let allows = rw (c .before .before .before .before .before .before .before .before .before .enum-told .given .1) at (c .before .before .before .before .before .before .before .before .before .before .before .offence .ensures) in
-    rw (c .before .move-locks .ensures, c .then .ensures, c .before .before .before .before .before .put .ensures, c .before .before .before .before .before .before .report-byte .ensures, c .before .before .before .before .before .before .before .before .atomicity-of .ensures, ← allows)
+    let allows = rw (c .before .before .before .before .before .before .before .before .enum-told .given .1) at (c .before .before .before .before .before .before .before .before .before .before .offence .ensures) in
+    rw (c .passing .ensures (c .before .before .before .before .before .before .before .before .before .before .before .before .before .args .locks) frames (c .before .before .before .before .put .last .0), c .before .then .ensures, c .before .before .before .before .put .ensures, c .before .before .before .before .before .report-byte .ensures, c .before .before .before .before .before .before .before .atomicity-of .ensures, ← allows)
 
 pub pass-spec : {M : Type 1} → statement M
 pass-spec =
@@ -54,7 +54,7 @@ pass-spec =
     atomicity-of-requires
     report-byte-requires
     put-requires
-    move-locks-requires
     then-requires
+    passing-requires
     same-length
     returns-2)

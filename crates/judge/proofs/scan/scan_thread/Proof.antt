@@ -62,33 +62,69 @@ pass-requires c κs = search needs
 enum-known-next : tie.Need-enum-known-next Inv-loop μ-loop
 enum-known-next c = search needs
 
-enum-known-refusal : tie.Need-enum-known-refusal Inv-loop μ-loop
-enum-known-refusal c = search needs
-
-same-length : tie.Need-same-length Inv-loop μ-loop
-same-length c = c .before .before .before .before .before .pass .kept .1 .1 .1 .1 .1 .1 .0 ∙ c .before .before .before .before .before .before .before .before .before .before .before .before .before .before .loop .inv .kept
-
-returns : tie.Need-returns Inv-loop μ-loop
-returns c =
-    let u = c .before .before .before .before .before .before .before .before .before .before in
-    let loop = u .before .before .before .before .loop in
-    let args = u .before .before .before .before .before .before .before .before .before .args in
-    ends-refused (args .s .now) _ _ _ _ _ _ _
-    (ends-passed (args .s .now) _ _ _ _ _ _ _ _ _ _ _ _ (loop .inv) (u .before .before .before .loop-test .taken) (u .before .valid-instruction-at .result)
-    (is-there (u .before)) (sym (c .before .before .before .before .before .before .before .before .enum-told .given .1) ∙ u .role-of .ensures) _
-    (rw (u .before .before .plus .ensures, c .before .refusal .given .1) at (c .before .before .before .before .before .pass .ensures (framesOf (loop .depth) (loop .frames)))))
-
 loop-less : tie.Need-loop-less Inv-loop μ-loop
 loop-less c = omega arith
 
 loop-again : tie.Need-loop-again Inv-loop μ-loop
 loop-again c =
+    let u = c .before .before .before .before .before .before .before .before .before in
+    let loop = u .before .before .before .before .loop in
+    let args = u .before .before .before .before .before .before .before .before .before .args in
+    next-passed (args .s .now) _ _ _ _ _ _ _ _ _ _ _ _ (loop .inv) (u .before .before .before .loop-test .taken) (u .before .valid-instruction-at .result)
+    (is-there (u .before)) (sym (c .before .before .before .before .before .before .before .enum-told .given .1) ∙ u .role-of .ensures) _ _ _ (c .before .before .before .before .before .pass .kept .1 .1 .1 .1 .1 .1 .0)
+    (rw (u .before .before .plus .ensures, c .before .next .given .1) at (c .before .before .before .before .before .pass .ensures (framesOf (loop .depth) (loop .frames))))
+
+enum-known-next-2 : tie.Need-enum-known-next-2 Inv-loop μ-loop
+enum-known-next-2 c = search needs
+
+with-requires : tie.Need-with-requires Inv-loop μ-loop
+with-requires c κs = search needs
+
+loop-less-2 : tie.Need-loop-less-2 Inv-loop μ-loop
+loop-less-2 c = omega arith
+
+loop-again-2 : tie.Need-loop-again-2 Inv-loop μ-loop
+loop-again-2 c =
     let u = c .before .before .before .before .before .before .before .before .before .before in
     let loop = u .before .before .before .before .loop in
     let args = u .before .before .before .before .before .before .before .before .before .args in
     next-passed (args .s .now) _ _ _ _ _ _ _ _ _ _ _ _ (loop .inv) (u .before .before .before .loop-test .taken) (u .before .valid-instruction-at .result)
-    (is-there (u .before)) (sym (c .before .before .before .before .before .before .before .before .enum-told .given .1) ∙ u .role-of .ensures) _ _ _ (c .before .before .before .before .before .pass .kept .1 .1 .1 .1 .1 .1 .0)
-    (rw (u .before .before .plus .ensures, c .before .next .given .1) at (c .before .before .before .before .before .pass .ensures (framesOf (loop .depth) (loop .frames))))
+    (is-there (u .before)) (sym (c .before .before .before .before .before .before .before .before .enum-told .given .1) ∙ u .role-of .ensures) _ _ _ (c .before .before .before .before .before .before .pass .kept .1 .1 .1 .1 .1 .1 .0)
+    (rw (u .before .before .plus .ensures, c .before .before .next2 .given .1, ← c .with .ensures) at (c .before .before .before .before .before .before .pass .ensures (framesOf (loop .depth) (loop .frames))))
+
+enum-known-next-3 : tie.Need-enum-known-next-3 Inv-loop μ-loop
+enum-known-next-3 c = search needs
+
+without-requires : tie.Need-without-requires Inv-loop μ-loop
+without-requires c κs = search needs
+
+loop-less-3 : tie.Need-loop-less-3 Inv-loop μ-loop
+loop-less-3 c = omega arith
+
+loop-again-3 : tie.Need-loop-again-3 Inv-loop μ-loop
+loop-again-3 c =
+    let u = c .before .before .before .before .before .before .before .before .before .before in
+    let loop = u .before .before .before .before .loop in
+    let args = u .before .before .before .before .before .before .before .before .before .args in
+    next-passed (args .s .now) _ _ _ _ _ _ _ _ _ _ _ _ (loop .inv) (u .before .before .before .loop-test .taken) (u .before .valid-instruction-at .result)
+    (is-there (u .before)) (sym (c .before .before .before .before .before .before .before .before .enum-told .given .1) ∙ u .role-of .ensures) _ _ _ (c .before .before .before .before .before .before .pass .kept .1 .1 .1 .1 .1 .1 .0)
+    (rw (u .before .before .plus .ensures, c .before .before .next3 .given .1, ← c .without .ensures) at (c .before .before .before .before .before .before .pass .ensures (framesOf (loop .depth) (loop .frames))))
+
+enum-known-refusal : tie.Need-enum-known-refusal Inv-loop μ-loop
+enum-known-refusal c = search needs
+
+same-length : tie.Need-same-length Inv-loop μ-loop
+same-length c = c .before .before .before .before .before .pass .kept .1 .1 .1 .1 .1 .1 .0 ∙ c .before .before .before .before .before .before .before .before .before .before .before .before .before .loop .inv .kept
+
+returns : tie.Need-returns Inv-loop μ-loop
+returns c =
+    let u = c .before .before .before .before .before .before .before .before .before in
+    let loop = u .before .before .before .before .loop in
+    let args = u .before .before .before .before .before .before .before .before .before .args in
+    ends-refused (args .s .now) _ _ _ _ _ _ _
+    (ends-passed (args .s .now) _ _ _ _ _ _ _ _ _ _ _ _ (loop .inv) (u .before .before .before .loop-test .taken) (u .before .valid-instruction-at .result)
+    (is-there (u .before)) (sym (c .before .before .before .before .before .before .before .enum-told .given .1) ∙ u .role-of .ensures) _
+    (rw (u .before .before .plus .ensures, c .before .refusal .given .1) at (c .before .before .before .before .before .pass .ensures (framesOf (loop .depth) (loop .frames)))))
 
 put-requires : tie.Need-put-requires Inv-loop μ-loop
 put-requires c κs = search needs
@@ -129,11 +165,11 @@ array-set-from-frames c =
           (is-there (u .before)) _ (sym (w .before .before .before .before .before .before .before .mark .given .1) ∙ u .role-of .ensures) _ (w .take-turn .result) (rw (u .before .before .plus .ensures) at (w .take-turn .ensures)) (c .enum-told2 .given .1),
     )
 
-loop-less-2 : tie.Need-loop-less-2 Inv-loop μ-loop
-loop-less-2 c = omega arith
+loop-less-4 : tie.Need-loop-less-4 Inv-loop μ-loop
+loop-less-4 c = omega arith
 
-loop-again-2 : tie.Need-loop-again-2 Inv-loop μ-loop
-loop-again-2 c =
+loop-again-4 : tie.Need-loop-again-4 Inv-loop μ-loop
+loop-again-4 c =
     let w = c .before .before .before .before in
     let u = w .before .before .before .before .before .before .before .before .before in
     let loop = u .before .before .before .before .loop in
@@ -148,11 +184,11 @@ enum-known-step c = search needs
 put-requires-2 : tie.Need-put-requires-2 Inv-loop μ-loop
 put-requires-2 c κs = search needs
 
-loop-less-3 : tie.Need-loop-less-3 Inv-loop μ-loop
-loop-less-3 c = omega arith
+loop-less-5 : tie.Need-loop-less-5 Inv-loop μ-loop
+loop-less-5 c = omega arith
 
-loop-again-3 : tie.Need-loop-again-3 Inv-loop μ-loop
-loop-again-3 c =
+loop-again-5 : tie.Need-loop-again-5 Inv-loop μ-loop
+loop-again-5 c =
     let w = c .before .before .before .before .before .before .before .before .before in
     let u = w .before .before .before .before .before .before .before .before .before in
     let loop = u .before .before .before .before .loop in
@@ -210,11 +246,19 @@ scan-thread-spec =
     enum-told
     pass-requires
     enum-known-next
+    enum-known-next-2
+    with-requires
+    enum-known-next-3
+    without-requires
     enum-known-refusal
     same-length
     returns
     loop-less
     loop-again
+    loop-less-2
+    loop-again-2
+    loop-less-3
+    loop-again-3
     put-requires
     mul-take-turn
     array-copy-out-take-turn
@@ -222,12 +266,12 @@ scan-thread-spec =
     enum-told-2
     mul-frames
     array-set-from-frames
-    loop-less-2
-    loop-again-2
+    loop-less-4
+    loop-again-4
     enum-known-step
     put-requires-2
-    loop-less-3
-    loop-again-3
+    loop-less-5
+    loop-again-5
     enum-known-step-2
     same-length-2
     returns-2

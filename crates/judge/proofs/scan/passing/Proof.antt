@@ -1,9 +1,10 @@
--- `move_locks` meets its contract. Assumes nothing.
+-- `passing` meets its contract. Assumes nothing.
 use borrow.Author.Needs.{needs}
-use Rattle.judge.specs.LockSet.{withLock, withoutLock}
-use Rattle.judge.specs.Turns.{moved}
-use Rattle.judge.proofs.discipline.move_locks.Statement.{statement}
-use Rattle.judge.proofs.discipline.move_locks.Tie as tie
+use mathlib.Core.Path.{refl}
+use Rattle.program.specs.Access.{accessOf}
+use Rattle.judge.specs.Turns.{setAfter, moved}
+use Rattle.judge.proofs.scan.passing.Statement.{statement}
+use Rattle.judge.proofs.scan.passing.Tie as tie
 
 enum-told : tie.Need-enum-told
 enum-told c = search needs
@@ -29,14 +30,8 @@ enum-told-7 c = search needs
 enum-known-i : tie.Need-enum-known-i
 enum-known-i c = search needs
 
-set-held-requires : tie.Need-set-held-requires
-set-held-requires c κs = search needs
-
 enum-known-i-2 : tie.Need-enum-known-i-2
 enum-known-i-2 c = search needs
-
-set-held-requires-2 : tie.Need-set-held-requires-2
-set-held-requires-2 c κs = search needs
 
 enum-told-8 : tie.Need-enum-told-8
 enum-told-8 c = search needs
@@ -57,67 +52,67 @@ enum-told-13 : tie.Need-enum-told-13
 enum-told-13 c = search needs
 
 returns : tie.Need-returns
-unfolding moved
-returns c = rw (c .enum-told .given .1)
+unfolding moved setAfter accessOf
+returns c s frames report = rw (c .enum-told .given .1)
 
 returns-2 : tie.Need-returns-2
-unfolding moved
-returns-2 c = rw (c .enum-told2 .given .1)
+unfolding moved setAfter accessOf
+returns-2 c s frames report = rw (c .enum-told2 .given .1)
 
 returns-3 : tie.Need-returns-3
-unfolding moved
-returns-3 c = rw (c .enum-told3 .given .1)
+unfolding moved setAfter accessOf
+returns-3 c s frames report = rw (c .enum-told3 .given .1)
 
 returns-4 : tie.Need-returns-4
-unfolding moved
-returns-4 c = rw (c .enum-told4 .given .1)
+unfolding moved setAfter accessOf
+returns-4 c s frames report = rw (c .enum-told4 .given .1)
 
 returns-5 : tie.Need-returns-5
-unfolding moved
-returns-5 c = rw (c .enum-told5 .given .1)
+unfolding moved setAfter accessOf
+returns-5 c s frames report = rw (c .enum-told5 .given .1)
 
 returns-6 : tie.Need-returns-6
-unfolding moved
-returns-6 c = rw (c .enum-told6 .given .1)
+unfolding moved setAfter accessOf
+returns-6 c s frames report = rw (c .enum-told6 .given .1)
 
 returns-7 : tie.Need-returns-7
-unfolding moved
-returns-7 c = rw (c .enum-told7 .given .1)
+unfolding moved setAfter accessOf
+returns-7 c s frames report = rw (c .enum-told7 .given .1)
 
 returns-8 : tie.Need-returns-8
-unfolding moved withLock
-returns-8 c = rw (c .set-held .ensures, c .before .before .before .i .given .1)
+unfolding moved setAfter accessOf
+returns-8 c s frames report = rw (c .before .i .given .1)
 
 returns-9 : tie.Need-returns-9
-unfolding moved withoutLock
-returns-9 c = rw (c .set-held2 .ensures, c .before .before .before .i2 .given .1)
+unfolding moved setAfter accessOf
+returns-9 c s frames report = rw (c .before .i2 .given .1)
 
 returns-10 : tie.Need-returns-10
-unfolding moved
-returns-10 c = rw (c .enum-told8 .given .1)
+unfolding moved setAfter accessOf
+returns-10 c s frames report = rw (c .enum-told8 .given .1)
 
 returns-11 : tie.Need-returns-11
-unfolding moved
-returns-11 c = rw (c .enum-told9 .given .1)
+unfolding moved setAfter accessOf
+returns-11 c s frames report = rw (c .enum-told9 .given .1)
 
 returns-12 : tie.Need-returns-12
-unfolding moved
-returns-12 c = rw (c .enum-told10 .given .1)
+unfolding moved setAfter accessOf
+returns-12 c s frames report = rw (c .enum-told10 .given .1)
 
 returns-13 : tie.Need-returns-13
-unfolding moved
-returns-13 c = rw (c .enum-told11 .given .1)
+unfolding moved setAfter accessOf
+returns-13 c s frames report = rw (c .enum-told11 .given .1)
 
 returns-14 : tie.Need-returns-14
-unfolding moved
-returns-14 c = rw (c .enum-told12 .given .1)
+unfolding moved setAfter accessOf
+returns-14 c s frames report = rw (c .enum-told12 .given .1)
 
 returns-15 : tie.Need-returns-15
-unfolding moved
-returns-15 c = rw (c .enum-told13 .given .1)
+unfolding moved setAfter accessOf
+returns-15 c s frames report = rw (c .enum-told13 .given .1)
 
-pub move-locks-spec : {M : Type 1} → statement M
-move-locks-spec =
+pub passing-spec : {M : Type 1} → statement M
+passing-spec =
     tie.close
     (tie.spec
     enum-told
@@ -128,9 +123,7 @@ move-locks-spec =
     enum-told-6
     enum-told-7
     enum-known-i
-    set-held-requires
     enum-known-i-2
-    set-held-requires-2
     enum-told-8
     enum-told-9
     enum-told-10
