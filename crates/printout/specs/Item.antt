@@ -2,9 +2,10 @@
 -- public call's contract names them.
 use Prim.Native.Nat.{ℕ, _+_, _-_, _≤_, _<_}
 use mathlib.Core.Path.{_≡_}
+use mathlib.Core.Bool.{true}
 use mathlib.Core.List.{List, [], _∷_, _++_}
 use lib.ListN.{length, getD, drop}
-use Rattle.program.specs.Instruction.{decodeAt, instructionOf}
+use Rattle.program.specs.Instruction.{decodeAt, instructionOf, isValid}
 use Rattle.program.specs.Layout.{programOf, threadsAt}
 use Rattle.program.specs.Sound.{SoundSections, countAt}
 use Rattle.program.specs.declared.layout.Layout.{Layout}
@@ -44,10 +45,11 @@ itemLine s l report (Code at place from) =
     instructionLine s at place (instructionOf (decodeAt (l .locks) (l .variables) s at)) (getD report from 0)
 itemLine s l report (Whole t) = getD (wholeLines 0 (programOf s l .threads) report) t []
 
--- it lies in the file, and its report byte in the report
+-- it lies in the file, an instruction is valid, and its report byte lies in the report
 abbrev pub ItemGood : List ℕ → Layout → Item → Type 0
 ItemGood s l (Thread t at) = (t < 8) × (at + 2 ≤ length s) × (countAt s at ≤ 1024)
-ItemGood s l (Code at place from) = (at + 4 ≤ length s) × (place < 1024) × (from < l .instructions + l .threads)
+ItemGood s l (Code at place from) =
+    (at + 4 ≤ length s) × (place < 1024) × (from < l .instructions + l .threads) × (isValid (decodeAt (l .locks) (l .variables) s at) ≡ true)
 ItemGood s l (Whole t) = t < l .threads
 
 -- a walk over the code sections stands at thread t, whose section's length field is at an offset, and whose report starts at an index

@@ -6,7 +6,7 @@ use crate::line::thread_line;
 use crate::line::variable_line;
 use crate::line::variables_line;
 use crate::line::whole_line;
-use program::instruction::instruction_at;
+use program::instruction::valid_instruction_at;
 use program::layout::Layout;
 use program::layout::code_count;
 use program::variable::initial_at;
@@ -120,7 +120,7 @@ fn print_item(file: &[u8], l: Layout, report: &[u8], item: Item, out: &mut [u8])
     match item {
         Item::Thread(t, at) => thread_line(file, at, t, code_count(file, at), out),
         Item::Code(at, place, from) => {
-            let i = instruction_at(file, at, l.locks, l.variables);
+            let i = valid_instruction_at(file, at);
             instruction_line(file, at, place, i, report[from], out)
         }
         Item::Whole(t) => {

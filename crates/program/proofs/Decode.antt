@@ -1,6 +1,6 @@
 -- What a decoded instruction's fields satisfy. Assumes nothing.
---     decode-fields        of valid bytes
---     instruction-fields   of the instruction at any offset, valid or not
+--     instruction-fields   registers below 8, locks and variables below their counts, at any offset, valid or not
+--     row-valid            a row is valid if its fields are right
 --     row-numbered         of valid bytes the instruction is its row's, found by its number
 use Prim.Native.Nat.{ℕ, _+_, _*_, _<_}
 use mathlib.Core.Path.{_≡_, refl, sym, ap, _∙_, subst}
@@ -10,13 +10,11 @@ use lib.Dec.{ltb, eqb}
 use borrow.Author.Tests.{ltb-true, eqb-true}
 use Rattle.program.specs.Choice.{choose}
 use Rattle.program.specs.Field.{byteAt}
-use Rattle.program.specs.Instruction.{decode, decodeAt, instructionOf, isRegister, isZero, isValid}
+use Rattle.program.specs.Instruction.{Decoded, Valid, Invalid, decode, decodeAt, instructionOf, isRegister, isZero, isValid}
 use Rattle.program.specs.Row.{rowNumber, rowInstruction}
 use Rattle.program.specs.Sound.{FieldsGood}
 use Rattle.program.specs.declared.instruction.Instruction.{Instruction}
 use Rattle.program.specs.declared.instruction.Instruction.the-variants.{Set, Copy, Add, Sub, Less, Read, Write, Take, Give, If, Else, While, Again, Atomic, End}
-use Rattle.program.specs.declared.instruction.Decoded.{Decoded}
-use Rattle.program.specs.declared.instruction.Decoded.the-variants.{Valid, Invalid}
 
 -- three tests that hold together hold
 all-true : (x y z : Bool) → (x && y && z) ≡ true → (x ≡ true) × (y ≡ true) × (z ≡ true)
@@ -52,6 +50,11 @@ row-good P true true i rest good h = good refl refl
 row-good P true false i rest good h = tt
 row-good P false fields i rest good h = h
 
+-- a row is valid if its fields are right
+pub row-valid : (fields : Bool) (i : Instruction) → fields ≡ isValid (choose fields (Valid i) Invalid)
+row-valid true i = refl
+row-valid false i = refl
+
 -- the table row by row
 decoded-good : (locks variables op a b c : ℕ) → IfValid (FieldsGood locks variables) (decode locks variables op a b c)
 unfolding decode
@@ -75,16 +78,11 @@ decoded-good locks variables op a b c =
     (row-good P (eqb op 0x35) (isZero a && isZero b && isZero c) End _ (λ _ _. tt)
     tt))))))))))))))
 
--- valid bytes: registers below 8, locks and variables below their counts
-pub decode-fields : (locks variables op a b c : ℕ) (i : Instruction) → decode locks variables op a b c ≡ Valid i
-    → FieldsGood locks variables i
-decode-fields locks variables op a b c i e = subst (IfValid (FieldsGood locks variables)) e (decoded-good locks variables op a b c)
-
 instruction-of : (locks variables : ℕ) (d : Decoded) → IfValid (FieldsGood locks variables) d → FieldsGood locks variables (instructionOf d)
 instruction-of locks variables (Valid i) h = h
 instruction-of locks variables Invalid h = tt
 
--- the same at any offset: invalid bytes give END, which has no fields
+-- at any offset: invalid bytes give END, which has no fields
 pub instruction-fields : (locks variables : ℕ) (s : List ℕ) (at : ℕ) → FieldsGood locks variables (instructionOf (decodeAt locks variables s at))
 unfolding decodeAt
 instruction-fields locks variables s at =

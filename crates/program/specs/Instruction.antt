@@ -9,8 +9,11 @@ use Rattle.program.specs.declared.instruction.Instruction.{Instruction}
 use Rattle.program.specs.declared.instruction.Instruction.the-variants.{Set, Copy, Add, Sub, Less, Read, Write, Take, Give, If, Else, While, Again, Atomic, End}
 use Rattle.program.specs.declared.instruction.Form.{Form}
 use Rattle.program.specs.declared.instruction.Form.the-variants as form
-use Rattle.program.specs.declared.instruction.Decoded.{Decoded}
-use Rattle.program.specs.declared.instruction.Decoded.the-variants.{Valid, Invalid}
+
+-- what the four bytes of an instruction say
+pub data Decoded : Type 0 where
+  Valid : Instruction → Decoded
+  Invalid : Decoded
 
 -- a row of the table: op code, what its fields must be, the instruction
 pub record Row : Type 0 where

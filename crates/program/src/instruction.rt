@@ -5,7 +5,7 @@ ghost use mathlib.Core.Bool.{true, _&&_};
 ghost use Prim.Native.Nat.{ℕ, _+_, _*_, _≤_};
 ghost use lib.ListN.{length};
 ghost use lib.Dec.{ltb};
-ghost use Rattle.program.specs.Choice.{choose, firstBad};
+ghost use Rattle.program.specs.Choice.{firstBad};
 ghost use Rattle.program.specs.Instruction.{isRegister, isZero, decodeAt, instructionOf, formOf};
 ghost use Rattle.program.specs.Instruction as Table;
 ghost use Rattle.program.specs.Row.{rowNumber};
@@ -28,12 +28,6 @@ pub enum Instruction {
     End,
 }
 
-// What the four bytes of an instruction say.
-pub enum Decoded {
-    Valid(Instruction),
-    Invalid,
-}
-
 // What nesting sees of an instruction: an opener or a closer with its distance, or neither.
 pub enum Form {
     Plain,
@@ -43,15 +37,6 @@ pub enum Form {
     Again(u16),
     Atomic(u16),
     End,
-}
-
-fn checked(good: bool, i: Instruction) -> Decoded
-    ensures { λ r. ⌜ r ≡ choose good (Decoded.Valid i) Decoded.Invalid ⌝ }
-{
-    if good {
-        return Decoded::Valid(i);
-    }
-    Decoded::Invalid
 }
 
 // What the fields of the rows must be.
@@ -85,48 +70,36 @@ fn are_zero(a: u8, b: u8, c: u8) -> bool
     (a == 0) & (b == 0) & (c == 0)
 }
 
-// The row of an op code, if its fields are right.
-pub fn decode(locks: usize, variables: usize, op: u8, a: u8, b: u8, c: u8) -> Decoded
-    ensures { λ r. ⌜ r ≡ Table.decode locks variables op a b c ⌝ }
+// Whether an op code is one of the table's, and its fields are right.
+pub fn is_valid(locks: usize, variables: usize, op: u8, a: u8, b: u8, c: u8) -> bool
+    ensures { λ r. ⌜ r ≡ Table.isValid (Table.decode locks variables op a b c) ⌝ }
 {
-    let n = (b as u16) * 256 + (c as u16);
     match op {
-        0x01 => checked(a < 8, Instruction::Set(a, n)),
-        0x02 => checked(is_copy(a, b, c), Instruction::Copy(a, b)),
-        0x03 => checked(are_registers(a, b, c), Instruction::Add(a, b, c)),
-        0x04 => checked(are_registers(a, b, c), Instruction::Sub(a, b, c)),
-        0x05 => checked(are_registers(a, b, c), Instruction::Less(a, b, c)),
-        0x10 => checked(is_access(variables, a, b, c), Instruction::Read(a, b)),
-        0x11 => checked(is_access(variables, a, b, c), Instruction::Write(a, b)),
-        0x20 => checked(is_lock(locks, a, b, c), Instruction::Take(a)),
-        0x21 => checked(is_lock(locks, a, b, c), Instruction::Give(a)),
-        0x30 => checked(a < 8, Instruction::If(a, n)),
-        0x31 => checked(a == 0, Instruction::Else(n)),
-        0x32 => checked(a < 8, Instruction::While(a, n)),
-        0x33 => checked(a == 0, Instruction::Again(n)),
-        0x34 => checked(a == 0, Instruction::Atomic(n)),
-        0x35 => checked(are_zero(a, b, c), Instruction::End),
-        _ => Decoded::Invalid,
+        0x01 => a < 8,
+        0x02 => is_copy(a, b, c),
+        0x03 => are_registers(a, b, c),
+        0x04 => are_registers(a, b, c),
+        0x05 => are_registers(a, b, c),
+        0x10 => is_access(variables, a, b, c),
+        0x11 => is_access(variables, a, b, c),
+        0x20 => is_lock(locks, a, b, c),
+        0x21 => is_lock(locks, a, b, c),
+        0x30 => a < 8,
+        0x31 => a == 0,
+        0x32 => a < 8,
+        0x33 => a == 0,
+        0x34 => a == 0,
+        0x35 => are_zero(a, b, c),
+        _ => false,
     }
 }
 
 // The four bytes at an offset.
-pub fn decode_at(s: &[u8], at: usize, locks: usize, variables: usize) -> Decoded
+pub fn is_valid_at(s: &[u8], at: usize, locks: usize, variables: usize) -> bool
     requires { ⌜ at + 4 ≤ length (now s) ⌝ }
-    ensures { λ r. ⌜ r ≡ decodeAt locks variables (now (s .entry)) at ⌝ }
+    ensures { λ r. ⌜ r ≡ Table.isValid (decodeAt locks variables (now (s .entry)) at) ⌝ }
 {
-    decode(locks, variables, s[at], s[at + 1], s[at + 2], s[at + 3])
-}
-
-// The instruction that valid bytes say.
-pub fn instruction_at(s: &[u8], at: usize, locks: usize, variables: usize) -> Instruction
-    requires { ⌜ at + 4 ≤ length (now s) ⌝ }
-    ensures { λ r. ⌜ r ≡ instructionOf (decodeAt locks variables (now (s .entry)) at) ⌝ }
-{
-    let Decoded::Valid(i) = decode_at(s, at, locks, variables) else {
-        return Instruction::End;
-    };
-    i
+    is_valid(locks, variables, s[at], s[at + 1], s[at + 2], s[at + 3])
 }
 
 // The row of an op code in document 01's table, from 1 on: numbers without gaps make a `match` short enough for the compiler to put it
@@ -216,10 +189,9 @@ pub fn first_bad_instruction(
     let mut at = start;
     let mut left = n;
     while 0 < left {
-        let d = decode_at(s, at, locks, variables);
-        let Decoded::Valid(_) = d else {
+        if !is_valid_at(s, at, locks, variables) {
             return Found::At(at);
-        };
+        }
         at += 4;
         left -= 1;
     }

@@ -118,7 +118,7 @@ returns-2 c =
           ∙ sym (lines-code (a .file .now) (a .l) report (l .t) (l .at) (l .from) h place b)
           ∙ ap (λ (n : ℕ). getD (linesFrom (a .file .now) (a .l) report (l .t) (l .at) (l .from)) n []) (sym e)
           ∙ l .inv .2 report,
-      (omega (arith, section .whole, b), omega (arith, section .few, b), omega (arith, walk-room w h, r, b)),
+      (omega (arith, section .whole, b), omega (arith, section .few, b), omega (arith, walk-room w h, r, b), section .valid place b),
     )
 
 add-from : tie.Need-add-from Inv-loop μ-loop

@@ -23,8 +23,8 @@ thread-line-requires c κs =
 enum-known-item-2 : tie.Need-enum-known-item-2
 enum-known-item-2 c = search needs
 
-instruction-at-requires : tie.Need-instruction-at-requires
-instruction-at-requires c κs =
+valid-instruction-at-requires : tie.Need-valid-instruction-at-requires
+valid-instruction-at-requires c κs =
     let start = c .before .before .before .before .before .before in
     let good = rw (c .before .item2 .given .1) at (start .pre .2) in
     good .0
@@ -71,7 +71,11 @@ same-length-2 c = omega arith
 
 returns-2 : tie.Need-returns-2
 unfolding itemLine
-returns-2 c = rw (c .before .before .before .before .before .before .before .item2 .given .1, ← c .before .before .before .before .before .instruction-at .ensures) (c .before .before .instruction-line .ensures)
+returns-2 c =
+    let start = c .before .before .before .before .before .before .before .before .before .before .before .before in
+    let item = c .before .before .before .before .before .before .before .item2 .given .1 in
+    let good = rw item at (start .pre .2) in
+    rw (item, ← c .before .before .before .before .before .valid-instruction-at .ensures (start .args .l .locks) (start .args .l .variables) (good .3)) (c .before .before .instruction-line .ensures)
 
 same-length-3 : tie.Need-same-length-3
 same-length-3 c = omega arith
@@ -88,7 +92,7 @@ print-item-spec =
     code-count-requires
     thread-line-requires
     enum-known-item-2
-    instruction-at-requires
+    valid-instruction-at-requires
     shared-slice-read-instruction-line
     instruction-line-requires
     enum-known-item-3

@@ -4,7 +4,7 @@ use mathlib.Core.Path.{_≡_, refl, sym, _∙_}
 use mathlib.Core.Bool.{Bool, true, false}
 use lib.ListN.{length}
 use native.Mathlib.Omega.{arith}
-use borrow.Author.Needs.{needs}
+use borrow.Author.Tests.{not-true, not-false}
 use Rattle.program.specs.Choice.{firstBad}
 use Rattle.program.specs.Instruction.{isValid, decodeAt}
 use Rattle.program.proofs.Search.{bad-next, bad-here, bad-done}
@@ -22,22 +22,16 @@ abbrev μ-loop : tie.MeasureT-loop
 loop-holds : tie.Need-loop-holds Inv-loop μ-loop
 loop-holds c = (omega arith, refl)
 
-decode-at-requires : tie.Need-decode-at-requires Inv-loop μ-loop
-decode-at-requires c κs = omega arith
-
-enum-told : tie.Need-enum-told Inv-loop μ-loop
-enum-told c = search needs
-
-enum-told-2 : tie.Need-enum-told-2 Inv-loop μ-loop
-enum-told-2 c = search needs
+is-valid-at-requires : tie.Need-is-valid-at-requires Inv-loop μ-loop
+is-valid-at-requires c κs = omega arith
 
 returns : tie.Need-returns Inv-loop μ-loop
 returns c =
-    let a = c .before .before .before .before .before .before .args in
-    let l = c .before .before .before .before .loop in
+    let a = c .before .before .before .before .before .args in
+    let l = c .before .before .before .loop in
     let good : ℕ → Bool = λ p. isValid (decodeAt (a .locks) (a .variables) (a .s .now) p) in
-    let bad : good (l .at) ≡ false = rw (← c .before .before .decode-at .ensures, c .enum-told2 .given .1) in
-    sym (bad-here good 4 (l .left) (l .at) (c .before .before .before .loop-test .taken) bad) ∙ l .inv .1
+    let bad : good (l .at) ≡ false = sym (c .before .is-valid-at .ensures) ∙ not-true (c .before .is-valid-at .result) (c .if1 .taken) in
+    sym (bad-here good 4 (l .left) (l .at) (c .before .before .loop-test .taken) bad) ∙ l .inv .1
 
 add-at : tie.Need-add-at Inv-loop μ-loop
 add-at c = omega arith
@@ -50,11 +44,11 @@ loop-less c = omega arith
 
 loop-again : tie.Need-loop-again Inv-loop μ-loop
 loop-again c =
-    let a = c .before .before .before .before .before .before .args in
-    let l = c .before .before .before .before .loop in
+    let a = c .before .before .before .before .before .args in
+    let l = c .before .before .before .loop in
     let good : ℕ → Bool = λ p. isValid (decodeAt (a .locks) (a .variables) (a .s .now) p) in
-    let fine : good (l .at) ≡ true = rw (← c .before .before .decode-at .ensures, c .enum-told .given .1) in
-    (omega arith, sym (bad-next good 4 (l .left) (l .at) (c .before .before .before .loop-test .taken) fine) ∙ l .inv .1)
+    let fine : good (l .at) ≡ true = sym (c .before .is-valid-at .ensures) ∙ not-false (c .before .is-valid-at .result) (c .if1 .left) in
+    (omega arith, sym (bad-next good 4 (l .left) (l .at) (c .before .before .loop-test .taken) fine) ∙ l .inv .1)
 
 returns-2 : tie.Need-returns-2 Inv-loop μ-loop
 returns-2 c =
@@ -69,9 +63,7 @@ first-bad-instruction-spec =
     Inv-loop
     μ-loop
     loop-holds
-    decode-at-requires
-    enum-told
-    enum-told-2
+    is-valid-at-requires
     returns
     add-at
     sub-left
