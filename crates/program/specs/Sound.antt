@@ -1,5 +1,5 @@
--- What a sound file is known to hold, for the laws of proofs/ and the crates above; no contract cites it. `proofs/Sound.antt` shows
--- it of every file that is read as sound.
+-- What a sound file is known to hold, for the laws of proofs/ and for what inner functions of the crates above require; no public
+-- call's contract cites it. `proofs/Sound.antt` shows it of every file that is read as sound.
 use Prim.Native.Nat.{ℕ, zero, suc, _+_, _*_, _/_, _<_, _≤_}
 use mathlib.Core.Path.{_≡_}
 use mathlib.Core.Bool.{true}
