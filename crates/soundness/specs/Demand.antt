@@ -14,9 +14,10 @@ use Rattle.program.specs.Layout.{Program}
 unfoldable pub ThreadsOf : Program → List ℕ → Type 0
 ThreadsOf p list = (i : ℕ) → i < length list → getD list i 0 < length (p .threads)
 
--- an uninterrupted list that ends in the same variables, locks and thread states with the same number of moves
+-- an uninterrupted list of its threads that ends in the same variables, locks and thread states with the same number of moves
 pub record Serialized (p : Program) (list : List ℕ) : Type 0 where
   pub serial : List ℕ
+  pub threads : ThreadsOf p serial
   pub uninterrupted : Uninterrupted p serial
   pub same-state : run p serial .state ≡ run p list .state
   pub same-moved : run p serial .counts .moved ≡ run p list .counts .moved
