@@ -3,12 +3,12 @@
 use mathlib.Core.Path.{_≡_, refl}
 use mathlib.Core.List.{List, [], _∷_, _++_}
 use Prim.Native.Nat.{ℕ, zero, suc, _+_}
-use lib.ListN.{length, replicate}
+use lib.ListN.{replicate}
 use Rattle.machine.specs.Run.{run}
-use Rattle.machine.specs.State.{State, start}
+use Rattle.machine.specs.State.{start}
 use Rattle.printout.specs.Text.{ascii}
 use Rattle.hogunlas.specs.Calls.{benchOutput}
-use Rattle.hogunlas.specs.Cases.{reportOf, ranOf, file, twoThreads, guardedVariable, openVariable, TAKE, GIVE, READ, WRITE, ATOMIC, END}
+use Rattle.hogunlas.specs.Cases.{reportOf, file, guardedVariable, TAKE, GIVE, READ, ATOMIC, END}
 use Rattle.hogunlas.proofs.Definitions.{definitions}
 
 -- "Given .. it prints exactly": the example file and its ten lines
