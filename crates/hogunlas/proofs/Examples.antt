@@ -1,18 +1,14 @@
 -- Worked examples of document 01 ("Line and bench", "Cases", "Mistakes that look reasonable"), computed by the definitions. Assumes
 -- nothing.
 use mathlib.Core.Path.{_≡_, refl}
-use mathlib.Core.Bool.{Bool, true, false}
-use mathlib.Core.List.{List, [], _∷_, _++_, map}
+use mathlib.Core.List.{List, [], _∷_, _++_}
 use Prim.Native.Nat.{ℕ, zero, suc, _+_}
-use lib.ListN.{length, replicate}
-use Rattle.machine.specs.Block.{coveredFrom}
+use lib.ListN.{replicate}
 use Rattle.machine.specs.Run.{run}
-use Rattle.machine.specs.State.{State, start}
+use Rattle.machine.specs.State.{start}
 use Rattle.printout.specs.Text.{ascii}
-use Rattle.program.specs.declared.instruction.Instruction.{Instruction}
-use Rattle.program.specs.declared.instruction.Instruction.the-variants.{Atomic, End}
 use Rattle.hogunlas.specs.Calls.{benchOutput}
-use Rattle.hogunlas.specs.Cases.{reportOf, ranOf, file, twoThreads, guardedVariable, openVariable, TAKE, GIVE, READ, WRITE, ATOMIC, END}
+use Rattle.hogunlas.specs.Cases.{reportOf, file, guardedVariable, TAKE, GIVE, READ, ATOMIC, END}
 use Rattle.hogunlas.proofs.Definitions.{definitions}
 
 -- "Given .. it prints exactly": the example file and its ten lines
@@ -85,12 +81,3 @@ else-part-locks = refl
 pub parts-differ : reportOf (file guardedVariable (IF 2 ++ TAKE ++ ELSE 1 ++ END ++ GIVE)) ≡ 12 ∷ 25 ∷ []
 unfolding definitions
 parts-differ = refl
-
--- `inside`: "counting a thread at its ATOMIC as inside"; "treating the END of a block as already outside". Blocks at places 0 to 3 and,
--- nested, 1 to 2; then nothing at 4
-abbrev blocks : List Instruction
-blocks = Atomic 3 ∷ Atomic 1 ∷ End ∷ End ∷ []
-
-pub inside-places : map (coveredFrom 0 blocks) (0 ∷ 1 ∷ 2 ∷ 3 ∷ 4 ∷ []) ≡ false ∷ true ∷ true ∷ true ∷ false ∷ []
-unfolding definitions
-inside-places = refl

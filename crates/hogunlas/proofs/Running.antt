@@ -10,8 +10,8 @@ use lib.Dec.{leb, ltb}
 use lib.ListN.{length, drop, getD}
 use borrow.Author.Tests.{le-leb, lt-leb, ltb-true}
 use Rattle.judge.specs.Acceptance.{accept}
-use Rattle.machine.specs.Kept.{Entries, countsOf}
-use Rattle.machine.specs.Run.{run}
+use Rattle.machine.specs.Kept.{countsOf}
+use Rattle.machine.specs.Run.{Entries, run}
 use Rattle.machine.specs.State.{stateBytes}
 use Rattle.machine.specs.declared.run.Counts.{Counts}
 use Rattle.program.proofs.Search.{bad-none}
@@ -31,7 +31,7 @@ abbrev size : Layout → ℕ
 size l = 4 * l .variables + l .locks + 34 * l .threads
 
 -- each entry names a thread
-pub every-entry : (l : Layout) (list : List ℕ) → firstBad (λ i. ltb (getD list i 0) (l .threads)) 1 (length list) 0 ≡ Nowhere → Entries l list
+pub every-entry : (l : Layout) (list : List ℕ) → firstBad (λ i. ltb (getD list i 0) (l .threads)) 1 (length list) 0 ≡ Nowhere → Entries (l .threads) list
 unfolding Entries
 every-entry l list e i h =
     let at : 0 + 1 * i ≡ i = omega arith in

@@ -1,5 +1,5 @@
 -- The state and the program as `run_list` keeps them: in arrays of the largest size, of which the first elements count; and where in the
--- file each thread's code lies. Its callers meet only `Entries` and `countsOf`, which stand in its contract.
+-- file each thread's code lies. Its callers meet only `countsOf`, which stands in its contract.
 use Prim.Native.Nat.{ℕ, _+_, _*_, _≤_, _<_}
 use mathlib.Core.Path.{_≡_}
 use mathlib.Core.Bool.{true}
@@ -68,7 +68,3 @@ pub record Kept (l : Layout) (sizes vs ks : List ℕ) (ths : List Thread) : Type
   pub threads : length ths ≡ 8
   pub places : (t : ℕ) → t < l .threads → getD ths t nobody .place ≤ getD sizes t 0
   pub registers : EightRegisters ths
-
--- every entry names a thread
-unfoldable pub Entries : Layout → List ℕ → Type 0
-Entries l list = (i : ℕ) → i < length list → getD list i 0 < l .threads

@@ -3,7 +3,7 @@
 --     Step     one entry of the list
 --     Run      a list, and its counts
 --     Block    standing inside a block; uninterrupted lists
--- For the contracts of functions inside the crate (of `run_list`: `Entries` and `countsOf`):
+-- For the contracts of functions inside the crate (of `run_list`: `countsOf`):
 --     Reached  what a shared access finds and leaves
 --     Kept     the state in arrays, and where each thread's code lies
 pub mod State

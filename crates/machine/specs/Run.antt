@@ -1,12 +1,17 @@
 -- A list of thread numbers, run from the start, and its counts (document 01, "The step machine": "Run returns the counts moved,
 -- waiting and idle").
-use Prim.Native.Nat.{ℕ, _+_}
+use Prim.Native.Nat.{ℕ, _+_, _<_}
 use mathlib.Core.List.{List, [], _∷_}
+use lib.ListN.{length, getD}
 use Rattle.program.specs.Layout.{Program}
 use Rattle.machine.specs.State.{State, start}
 use Rattle.machine.specs.Step.{outcome, step}
 use Rattle.machine.specs.declared.thread.Outcome.{Outcome}
 use Rattle.machine.specs.declared.thread.Outcome.the-variants.{Moved, Waiting, Idle}
+
+-- each entry is the number of one of so many threads
+unfoldable pub Entries : (threads : ℕ) → List ℕ → Type 0
+Entries threads list = (i : ℕ) → i < length list → getD list i 0 < threads
 
 -- "each the number of entries of that kind"
 pub record Counts : Type 0 where

@@ -15,8 +15,8 @@ ghost use lib.ListN.{length, drop};
 ghost use Rattle.program.specs.Layout.{programOf};
 ghost use Rattle.program.specs.Sound.{SoundFile};
 ghost use Rattle.machine.specs.State.{stateBytes};
-ghost use Rattle.machine.specs.Run.{runFrom, run};
-ghost use Rattle.machine.specs.Kept.{Prepared, Entries, Kept, fromHere, countsOf, ranIn};
+ghost use Rattle.machine.specs.Run.{Entries, runFrom, run};
+ghost use Rattle.machine.specs.Kept.{Prepared, Kept, fromHere, countsOf, ranIn};
 
 // How many entries moved, waited and were idle.
 pub struct Counts {
@@ -42,7 +42,7 @@ fn entries(
     variables: &mut [u32; 64],
     locks: &mut [u8; 16],
 ) -> Ran
-    requires { ⌜ Prepared (now s) l starts sizes × Entries l (now list) × (length (now variables) ≡ 64) × (length (now locks) ≡ 16) ⌝ }
+    requires { ⌜ Prepared (now s) l starts sizes × Entries (l .threads) (now list) × (length (now variables) ≡ 64) × (length (now locks) ≡ 16) ⌝ }
     ensures { λ r. ⌜ runFrom (programOf (now (s .entry)) l) (fromHere l (now (variables .entry)) (now (locks .entry))) (now (list .entry)) ≡ ranIn l r (now (variables .exit)) (now (locks .exit)) ⌝ }
     ensures { λ r. ⌜ Kept l sizes (now (variables .exit)) (now (locks .exit)) (r .threads) ⌝ }
 {
@@ -89,7 +89,7 @@ fn entries(
 
 // A list, run from the start of a sound file's program: the counts, and the end state's bytes.
 pub fn run_list(s: &[u8], l: Layout, list: &[u8], out: &mut [u8]) -> Counts
-    requires { ⌜ SoundFile (now s) l × Entries l (now list) × (4 * l .variables + l .locks + 34 * l .threads ≤ length (now out)) ⌝ }
+    requires { ⌜ SoundFile (now s) l × Entries (l .threads) (now list) × (4 * l .variables + l .locks + 34 * l .threads ≤ length (now out)) ⌝ }
     ensures counts { λ r. ⌜ countsOf r ≡ run (programOf (now (s .entry)) l) (now (list .entry)) .counts ⌝ }
     ensures state { λ r. ⌜ now (out .exit) ≡ stateBytes (run (programOf (now (s .entry)) l) (now (list .entry)) .state) ++ drop (length (stateBytes (run (programOf (now (s .entry)) l) (now (list .entry)) .state))) (now (out .entry)) ⌝ }
 {

@@ -46,7 +46,13 @@ pub demand3 : (file : List ℕ) → Demand3 file
 unfolding Demand3 Demand3InOrder
 demand3 file a e list threads nobody =
     let r = demand3-in-order file a e list threads nobody in
-    record { serial = r .serial; uninterrupted = r .uninterrupted; same-state = r .same-state; same-moved = r .same-moved }
+    record {
+      serial = r .serial;
+      threads = r .threads;
+      uninterrupted = r .uninterrupted;
+      same-state = r .same-state;
+      same-moved = r .same-moved;
+    }
 
 -- each thread's number of moves is the same
 pub same-counts : {p : Program} {list : List ℕ} (r : SerializedInOrder p list) (t : ℕ)

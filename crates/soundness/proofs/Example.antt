@@ -23,14 +23,14 @@ use Rattle.judge.specs.Acceptance.{sound, accept}
 use Rattle.machine.specs.State.{fresh, start, codeOf, threadOf}
 use Rattle.program.specs.Access.{accessOf}
 use Rattle.machine.specs.Step.{waits, valueRead, variablesAfter, locksAfter as machine-locksAfter, registersAfter, branch, placeAfter, threadAfter, instructionOf, moveBy, outcome, step}
-use Rattle.machine.specs.Run.{runFrom, run}
+use Rattle.machine.specs.Run.{Entries, runFrom, run}
 use Rattle.machine.specs.Block.{covers, coveredFrom, inside, OthersOutside, NobodyInside, UninterruptedFrom, Uninterrupted}
 use Rattle.soundness.specs.Demand.{ThreadsOf, Serialized}
 use Rattle.soundness.specs.Example.{adder, adders, interleaving, Interrupted, acceptedOf}
 
 -- all definitions open
 unfoldable definitions : Unit {0}
-unfolding composition join firstBad present byteField pairField section recorded recordAt variableAt decode decodeAt formOf named unnamed opening passing atElse atAgain atEnd nest atCodeEnd firstBroken instructionsAt variablesAt threadsAt programOf variableSection codeSection codeSections fields reading size elseDistance structure structured empty holds withLock withoutLock sameFlags same kindAt permits lockSetAfter locksAfter accessAtomicity accessMover atomicityOf isTop judge judgeThread judgeThreads judgeProgram sound accept fresh start codeOf threadOf accessOf waits valueRead variablesAfter machine-locksAfter registersAfter branch placeAfter threadAfter instructionOf moveBy outcome step runFrom run covers coveredFrom inside OthersOutside NobodyInside UninterruptedFrom Uninterrupted ThreadsOf adder adders interleaving acceptedOf
+unfolding composition join firstBad present byteField pairField section recorded recordAt variableAt decode decodeAt formOf named unnamed opening passing atElse atAgain atEnd nest atCodeEnd firstBroken instructionsAt variablesAt threadsAt programOf variableSection codeSection codeSections fields reading size elseDistance structure structured empty holds withLock withoutLock sameFlags same kindAt permits lockSetAfter locksAfter accessAtomicity accessMover atomicityOf isTop judge judgeThread judgeThreads judgeProgram sound accept fresh start codeOf threadOf accessOf waits valueRead variablesAfter machine-locksAfter registersAfter branch placeAfter threadAfter instructionOf moveBy outcome step runFrom run covers coveredFrom inside OthersOutside NobodyInside UninterruptedFrom Uninterrupted Entries adder adders interleaving acceptedOf
 definitions = tt
 
 -- each entry is below n

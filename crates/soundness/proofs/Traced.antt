@@ -5,6 +5,7 @@ use mathlib.Core.Path.{_≡_, refl, sym, ap, ap₂, _∙_, subst}
 use mathlib.Core.List.{List, [], _∷_}
 use lib.ListN.{length}
 use Rattle.machine.specs.Block.{OthersOutside, UninterruptedFrom}
+use Rattle.machine.specs.Run.{Entries}
 use Rattle.machine.specs.State.{State}
 use Rattle.machine.specs.Step.{outcome}
 use Rattle.machine.specs.declared.thread.Outcome.{Outcome}
@@ -23,11 +24,11 @@ use Rattle.soundness.proofs.Prefix.{outside-outer}
 -- ---- thread numbers
 
 threads-nil : (p : Program) → ThreadsOf p []
-unfolding ThreadsOf
+unfolding Entries
 threads-nil p i h = absurd (omega arith)
 
 threads-cons : (p : Program) (t : ℕ) (ts : List ℕ) → t < length (p .threads) → ThreadsOf p ts → ThreadsOf p (t ∷ ts)
-unfolding ThreadsOf
+unfolding Entries
 threads-cons p t ts b f zero h = b
 threads-cons p t ts b f (suc i) h = f i (omega arith)
 

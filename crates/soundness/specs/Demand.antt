@@ -1,22 +1,23 @@
 -- Demand 3 (document 01, "The step machine"): "one claim about a whole list, not one for each entry: it compares the whole end states
 -- of the given and the uninterrupted list, and their moved counts".
-use Prim.Native.Nat.{ℕ, _<_}
+use Prim.Native.Nat.{ℕ}
 use mathlib.Core.Path.{_≡_}
 use mathlib.Core.List.{List}
-use lib.ListN.{length, getD}
+use lib.ListN.{length}
 use Rattle.judge.specs.Acceptance.{Accepted, accept}
 use Rattle.machine.specs.Block.{NobodyInside, Uninterrupted}
-use Rattle.machine.specs.Run.{run}
+use Rattle.machine.specs.Run.{Entries, run}
 use Rattle.program.specs.Choice.{fine}
 use Rattle.program.specs.Layout.{Program}
 
 -- a list of thread numbers of the program
-unfoldable pub ThreadsOf : Program → List ℕ → Type 0
-ThreadsOf p list = (i : ℕ) → i < length list → getD list i 0 < length (p .threads)
+abbrev pub ThreadsOf : Program → List ℕ → Type 0
+ThreadsOf p list = Entries (length (p .threads)) list
 
--- an uninterrupted list that ends in the same variables, locks and thread states with the same number of moves
+-- an uninterrupted list of its threads that ends in the same variables, locks and thread states with the same number of moves
 pub record Serialized (p : Program) (list : List ℕ) : Type 0 where
   pub serial : List ℕ
+  pub threads : ThreadsOf p serial
   pub uninterrupted : Uninterrupted p serial
   pub same-state : run p serial .state ≡ run p list .state
   pub same-moved : run p serial .counts .moved ≡ run p list .counts .moved

@@ -13,8 +13,8 @@ use Rattle.program.specs.Layout.{programOf}
 use Rattle.program.specs.Sound.{FieldsGood}
 use Rattle.program.specs.declared.layout.Layout.{Layout}
 use Rattle.machine.specs.State.{fresh}
-use Rattle.machine.specs.Run.{runFrom}
-use Rattle.machine.specs.Kept.{stateIn, fromHere, Located, Prepared, Entries, nobody, Kept}
+use Rattle.machine.specs.Run.{Entries, runFrom}
+use Rattle.machine.specs.Kept.{stateIn, fromHere, Located, Prepared, nobody, Kept}
 use Rattle.machine.proofs.Kept.{kept-start, fields, entry-idle, entry-waiting, kept-waiting, entry-moved, kept-moved}
 use Rattle.machine.proofs.run.entries.Statement.{statement}
 use Rattle.machine.proofs.run.entries.Tie as tie
@@ -26,7 +26,7 @@ Inv-loop s list variables₀ locks₀ starts sizes threads₀ moved₀ waiting�
     × (moved + waiting + idle ≡ i)
     × ((l : Layout)
     → Prepared s l starts sizes
-    → Entries l list
+    → Entries (l .threads) list
     → Kept l sizes variables locks threads
     × (runFrom (programOf s l) (fromHere l variables₀ locks₀) list
     ≡ runFrom (programOf s l) (record { counts = record { moved = moved; waiting = waiting; idle = idle }; state = stateIn l variables locks threads }) (drop i list)))
@@ -46,7 +46,7 @@ module _ (c : tie.After-shared-slice-known3 Inv-loop μ-loop) where
   abbrev place : ℕ
   place = getD (c .before .before .loop .threads) thread nobody .place
 
-  module _ (l : Layout) (p : Prepared (start .args .s .now) l (start .args .t4) (start .args .t5)) (q : Entries l (start .args .list .now)) where
+  module _ (l : Layout) (p : Prepared (start .args .s .now) l (start .args .t4) (start .args .t5)) (q : Entries (l .threads) (start .args .list .now)) where
     named : thread < l .threads
     unfolding Entries
     named = q (c .before .before .loop .i) (c .before .loop-test .taken)
@@ -88,7 +88,7 @@ module _ (c : tie.After-valid-instruction-at Inv-loop μ-loop) where
   entry = c .before .before .before
 
   -- which is valid, so that it is the one read
-  read : (l : Layout) → Prepared (start entry .args .s .now) l (start entry .args .t4) (start entry .args .t5) → Entries l (start entry .args .list .now)
+  read : (l : Layout) → Prepared (start entry .args .s .now) l (start entry .args .t4) (start entry .args .t5) → Entries (l .threads) (start entry .args .list .now)
       → c .valid-instruction-at .result
       ≡ instructionOf (decodeAt (l .locks) (l .variables) (start entry .args .s .now) (getD (start entry .args .t4) (thread entry) 0 + 4 * place entry))
   read l p q = c .valid-instruction-at .ensures (l .locks) (l .variables) (located entry l p q .valid (place entry) (at-instruction (c .before)))
