@@ -2,8 +2,8 @@
 -- treating the END of a block as already outside"), computed by the definitions. Assumes nothing.
 use Prim.Native.Nat.{ℕ}
 use mathlib.Core.Path.{_≡_, refl}
-use mathlib.Core.Bool.{Bool, true, false}
-use mathlib.Core.List.{List, [], _∷_, map}
+use mathlib.Core.Bool.{true, false}
+use mathlib.Core.List.{[], _∷_, map}
 use Rattle.program.specs.Instruction.{formOf}
 use Rattle.program.specs.Layout.{Program}
 use Rattle.program.specs.declared.instruction.Instruction.the-variants.{While, Again, Atomic, End}
