@@ -18,7 +18,7 @@ use lib.Dec.{T, eqb, eqb→eq, not-T}
 use Rattle.atomicity.proofs.Table.{row, row-at}
 use Rattle.atomicity.specs.Atomicity.{column, composition, join, closure, atMost}
 use Rattle.atomicity.specs.declared.Atomicity.{Atomicity}
-use Rattle.atomicity.specs.declared.Atomicity.the-variants.{Both, Left, Right, Atomic, Top}
+use Rattle.atomicity.specs.declared.Atomicity.the-variants.{Both, Left, Right, Top}
 
 -- Tests
 

@@ -1,5 +1,5 @@
 -- A table of src/, whose rows and columns stand in the order of the report bytes, read at two atomicities. Assumes nothing.
-use Prim.Native.Nat.{ℕ, _<_}
+use Prim.Native.Nat.{_<_}
 use mathlib.Core.Path.{_≡_, refl, _∙_, ap}
 use mathlib.Core.List.{List, [], _∷_}
 use lib.ListN.{getD}

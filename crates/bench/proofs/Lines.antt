@@ -2,7 +2,7 @@
 --     laid-fits                           what is laid over a buffer lies within it
 --     lines-none, lines-next, lines-all   before the first line, after one more, after the last
 --     lines-length, lines-room            the buffer keeps its length, and has room for each line
-use Prim.Native.Nat.{ℕ, _+_, _-_, _*_, _<_, _≤_}
+use Prim.Native.Nat.{ℕ, _+_, _-_, _<_, _≤_}
 use mathlib.Core.Path.{_≡_, refl, sym, _∙_, ap}
 use mathlib.Core.List.{List, [], _∷_, _++_, append-assoc, append-nil}
 use native.Mathlib.Numerals.{add-one}

@@ -2,9 +2,7 @@
 --     judge-refused, judge-short, judge-done
 use Prim.Native.Nat.{ℕ, _<_, _≤_}
 use mathlib.Core.Path.{_≡_, refl, sym, _∙_, ap, subst}
-use mathlib.Core.Bool.{Bool, true, false}
 use mathlib.Core.List.{List, _++_}
-use lib.Dec.{leb, ltb}
 use lib.ListN.{length, take, drop, length-append}
 use lib.Seq.{take-at, take-length}
 use native.Mathlib.Omega.{arith}
@@ -13,7 +11,7 @@ use Rattle.judge.specs.Acceptance.{Accepted, accept}
 use Rattle.judge.specs.Judgement.{AcceptedAs, Judgement}
 use Rattle.judge.specs.declared.judging.Judging.{Judging}
 use Rattle.judge.specs.declared.judging.Judging.the-variants as judging
-use Rattle.program.specs.Choice.{fine, refused, firstBad}
+use Rattle.program.specs.Choice.{refused}
 use Rattle.program.specs.declared.layout.Layout.{Layout}
 use Rattle.program.specs.declared.refusal.Refusal.{Refusal}
 use Rattle.program.specs.declared.refusal.Refusal.the-variants.{ShortBuffer}

@@ -1,7 +1,6 @@
 -- Document 01's starred cases hold of the definitions: one computed theorem over the table. Assumes nothing.
 use mathlib.Core.Path.{_≡_, refl}
-use mathlib.Core.List.{List, map}
-use Prim.Native.Nat.{ℕ}
+use mathlib.Core.List.{map}
 use Rattle.hogunlas.specs.Cases.{Case, starred}
 use Rattle.hogunlas.proofs.Definitions.{definitions}
 

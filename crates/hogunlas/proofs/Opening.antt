@@ -1,10 +1,10 @@
 -- From judge_file's answer to what is known of the file, and the sizes of its program. Assumes nothing.
 use Prim.Native.Nat.{ℕ, _+_, _*_, _≤_}
-use mathlib.Core.Path.{_≡_, refl, sym, _∙_, ap, subst}
+use mathlib.Core.Path.{_≡_, refl, _∙_, ap}
 use mathlib.Core.List.{List}
 use native.Mathlib.Omega.{arith}
 use lib.ListN.{length}
-use Rattle.judge.specs.Acceptance.{Accepted, accept, sound, programRead}
+use Rattle.judge.specs.Acceptance.{Accepted, accept, sound}
 use Rattle.judge.specs.Judging.{judgeProgram}
 use Rattle.judge.specs.Judgement.{AcceptedAs}
 use Rattle.program.proofs.Contents.{length-threads, length-variables}
@@ -14,7 +14,6 @@ use Rattle.program.specs.Layout.{Program, programOf, reading}
 use Rattle.program.specs.Sound.{SoundFile}
 use Rattle.program.specs.declared.layout.Layout.{Layout}
 use Rattle.program.specs.declared.layout.Reading.the-variants.{Sound}
-use Rattle.program.specs.declared.refusal.Refusal.{Refusal}
 use Rattle.hogunlas.specs.Calls.{stateSize}
 use Rattle.hogunlas.specs.Opened.{Opened, OpenedFile}
 

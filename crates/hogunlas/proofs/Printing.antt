@@ -1,10 +1,8 @@
 -- What line answers, and what its buffer then holds, at each place where its code returns. Assumes nothing.
 --     line-refused, line-number, line-short, line-done
 use Prim.Native.Nat.{ℕ, _+_, _<_, _≤_}
-use mathlib.Core.Path.{_≡_, refl, sym, _∙_, ap}
+use mathlib.Core.Path.{_≡_, refl, _∙_, ap}
 use mathlib.Core.List.{List, [], _++_}
-use native.Mathlib.Omega.{arith}
-use lib.Dec.{leb, ltb}
 use lib.ListN.{length, drop, getD}
 use borrow.Author.Tests.{le-leb, lt-leb, lt-ltb, le-ltb}
 use Rattle.judge.specs.Acceptance.{accept}
@@ -13,7 +11,7 @@ use Rattle.printout.proofs.Report.{lines-report}
 use Rattle.printout.specs.Line.{lines}
 use Rattle.printout.specs.Writing.{Printed}
 use Rattle.program.proofs.Sound.{sound-file}
-use Rattle.program.specs.Choice.{fine, refused}
+use Rattle.program.specs.Choice.{refused}
 use Rattle.program.specs.Layout.{programOf}
 use Rattle.program.specs.declared.layout.Layout.{Layout}
 use Rattle.program.specs.declared.refusal.Refusal.{Refusal}

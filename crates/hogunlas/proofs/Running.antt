@@ -2,11 +2,10 @@
 --     run-refused, run-long, run-thread, run-short, run-done
 --     every-entry     each entry of a list that was searched in vain names a thread
 use Prim.Native.Nat.{ℕ, _+_, _*_, _<_, _≤_}
-use mathlib.Core.Path.{_≡_, refl, sym, _∙_, ap}
-use mathlib.Core.Bool.{Bool, true, false}
+use mathlib.Core.Path.{_≡_, refl}
 use mathlib.Core.List.{List, _++_}
 use native.Mathlib.Omega.{arith}
-use lib.Dec.{leb, ltb}
+use lib.Dec.{ltb}
 use lib.ListN.{length, drop, getD}
 use borrow.Author.Tests.{le-leb, lt-leb, ltb-true}
 use Rattle.judge.specs.Acceptance.{accept}
@@ -15,7 +14,7 @@ use Rattle.machine.specs.Run.{Entries, run}
 use Rattle.machine.specs.State.{stateBytes}
 use Rattle.machine.specs.declared.run.Counts.{Counts}
 use Rattle.program.proofs.Search.{bad-none}
-use Rattle.program.specs.Choice.{fine, refused, firstBad}
+use Rattle.program.specs.Choice.{refused, firstBad}
 use Rattle.program.specs.Layout.{programOf}
 use Rattle.program.specs.declared.found.Found.the-variants.{Nowhere, At}
 use Rattle.program.specs.declared.layout.Layout.{Layout}

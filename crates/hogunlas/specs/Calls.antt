@@ -1,7 +1,6 @@
 -- What each public call answers, and what its buffer then holds (document 01, "Atomicities", "The step machine", "Line and bench";
 -- "Who can bring a number about" for the order of the refusals).
 use Prim.Native.Nat.{ℕ, _+_, _*_}
-use mathlib.Core.Bool.{Bool}
 use mathlib.Core.List.{List, [], _∷_, _++_}
 use lib.ListN.{length, getD, take, drop}
 use lib.Dec.{ltb, leb}
@@ -13,7 +12,6 @@ use Rattle.program.specs.Choice.{Answer, fine, refused, _>>=_, _>>_, require, f
 use Rattle.program.specs.Layout.{Program}
 use Rattle.program.specs.declared.found.Found.{Found}
 use Rattle.program.specs.declared.found.Found.the-variants.{Nowhere, At}
-use Rattle.program.specs.declared.refusal.Refusal.{Refusal}
 use Rattle.program.specs.declared.refusal.Refusal.the-variants.{LongList, ThreadNumber, ShortBuffer, LineNumber}
 use Rattle.hogunlas.specs.declared.Judged.{Judged}
 use Rattle.hogunlas.specs.declared.Judged.the-variants as judged

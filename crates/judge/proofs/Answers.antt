@@ -1,7 +1,6 @@
 -- Laws of going on with what was answered. Assumes nothing.
 --     bind-assoc     going on twice
 --     bind-ext       two ways to go on that agree wherever the answer is fine
---     bind-fine      going on with nothing changed
 --     require-bind   going on after a test
 --     require-ext    two ways to go on that agree wherever the test holds
 --     fine-inj, refused-inj, fine-not-refused    answers told apart
@@ -47,10 +46,6 @@ module _ {A B : Type 0} where
 pub bind-assoc : {A B C : Type 0} (m : Answer A) (f : A → Answer B) (g : B → Answer C) → ((m >>= f) >>= g) ≡ (m >>= λ a. f a >>= g)
 bind-assoc (fine a) f g = refl
 bind-assoc (refused r) f g = refl
-
-pub bind-fine : {A : Type 0} (m : Answer A) → (m >>= λ a. fine a) ≡ m
-bind-fine (fine a) = refl
-bind-fine (refused r) = refl
 
 pub require-ext : {A : Type 0} (ok : Bool) (r : Refusal) (m n : Answer A) → (ok ≡ true → m ≡ n) → require ok r m ≡ require ok r n
 require-ext true r m n h = h refl

@@ -5,13 +5,14 @@
 --     with-out, without-out   a number past the limit changes no set
 --     same-differ, same-next  comparing the flags from k on: they differ at k, or the comparison goes on
 --     same-end                no flag is left
-use Prim.Native.Nat.{ℕ, zero, suc, _+_, _≤_, _<_}
+use Prim.Native.Nat.{ℕ, _+_, _≤_, _<_}
 use mathlib.Core.Path.{_≡_, refl, sym, _∙_, ap}
-use mathlib.Core.Bool.{Bool, true, false, _&&_, not}
+use mathlib.Core.Bool.{Bool, true, false}
 use mathlib.Core.List.{List, [], _∷_, map}
 use lib.ListN.{length, drop, getD, length-map, drop-of-length-le}
 use lib.Seq.{drop-cons, set-out}
 use native.Mathlib.Numerals.{add-one}
+use Rattle.program.proofs.StructureTurn.{and-left, and-right}
 use Rattle.judge.specs.LockSet.{sameFlag, sameFlags, same, withLock, withoutLock}
 use Rattle.judge.specs.declared.lock_set.LockSet.{LockSet}
 
@@ -23,15 +24,6 @@ pub same-flag-eq : (a b : Bool) → sameFlag a b ≡ true → a ≡ b
 same-flag-eq true b e = sym e
 same-flag-eq false true e = e
 same-flag-eq false false e = refl
-
-and-left : (a b : Bool) → (a && b) ≡ true → a ≡ true
-and-left true b e = refl
-and-left false b e = e
-
-and-right : (a b : Bool) → (a && b) ≡ true → b ≡ true
-and-right true b e = e
-and-right false true e = refl
-and-right false false e = e
 
 flags-eq : (l m : List Bool) → sameFlags l m ≡ true → l ≡ m
 unfolding sameFlags

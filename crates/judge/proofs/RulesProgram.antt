@@ -3,24 +3,20 @@
 --     judge-thread, thread-judge        from judging a thread to its derivation, and back
 --     judge-threads, threads-judge      ... the threads from t on
 --     program-exactly                   a program's report is what its derivation reports
---     typed-at                          a derivation of each thread, by its number
 -- Assumes nothing.
-use Prim.Native.Nat.{ℕ, zero, suc, _+_}
+use Prim.Native.Nat.{ℕ, suc}
 use mathlib.Core.Path.{_≡_, refl, sym, ap, _∙_, subst}
 use mathlib.Core.Logic.{_↔_}
 use mathlib.Core.List.{List, [], _∷_}
-use lib.ListN.{getD}
-use native.Mathlib.Nat.{add-zero, zero-add, add-suc, suc-add}
-use Rattle.atomicity.specs.declared.Atomicity.the-variants.{Both}
 use Rattle.program.specs.Choice.{Answer, fine}
-use Rattle.program.specs.Code.{structure, structured}
+use Rattle.program.specs.Code.{structured}
 use Rattle.program.specs.Layout.{Program, CodeSection}
 use Rattle.program.specs.Nesting.{firstBroken}
 use Rattle.program.specs.declared.found.Found.the-variants.{Nowhere}
 use Rattle.program.proofs.Structure.{nested-flat}
 use Rattle.judge.specs.Judging.{judge, judgeThread, judgeThreads, judgeProgram}
 use Rattle.judge.specs.LockSet.{empty, same}
-use Rattle.judge.specs.Rules.{Typed, typed-done, TypedThread, threadReport, TypedThreads, typed-none, typed-thread, threadsReport, TypedProgram, programReport, Nested}
+use Rattle.judge.specs.Rules.{Typed, TypedThread, threadReport, TypedThreads, typed-none, typed-thread, threadsReport, TypedProgram, programReport, Nested}
 use Rattle.judge.specs.declared.lock_set.LockSet.{LockSet}
 use Rattle.judge.proofs.Answers.{fine-inj}
 use Rattle.judge.proofs.LockSets.{same-eq, same-self}
@@ -82,20 +78,3 @@ module _ (p : Program) where
   pub program-exactly : Nested (p .threads) → (bytes : List ℕ) → (judgeProgram p ≡ fine bytes) ↔ ((D : TypedProgram p) × (programReport D ≡ bytes))
   unfolding judgeProgram
   program-exactly h = exactly (judgeThreads p 0 (p .threads)) threadsReport (λ b e. judge-threads 0 (p .threads) h e) threads-judge
-
-  -- ---- a thread by its number
-
-  -- no code at all
-  typed-nothing : {t : ℕ} → TypedThread p t []
-  unfolding structured structure
-  typed-nothing = record { atomicity = Both; typed = typed-done }
-
-  from : {t : ℕ} {sections : List CodeSection} → TypedThreads p t sections → (i : ℕ)
-      → TypedThread p (t + i) (getD sections i (record { start = 0; code = [] }) .code)
-  from typed-none i = typed-nothing
-  from (typed-thread {t = t} T D) zero = rw add-zero T
-  from (typed-thread {t = t} T D) (suc i) = rw (add-suc, ← suc-add) (from D i)
-
-  -- thread t's derivation; past the last thread there is no code
-  pub typed-at : TypedProgram p → (t : ℕ) → TypedThread p t (getD (p .threads) t (record { start = 0; code = [] }) .code)
-  typed-at D t = rw zero-add at (from D t)

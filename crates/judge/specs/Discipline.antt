@@ -9,7 +9,6 @@ use Rattle.atomicity.specs.declared.Atomicity.the-variants as atomicity
 use Rattle.program.specs.Access.{Access, none, reads, writes, takes, gives, accessOf}
 use Rattle.program.specs.Choice.{Answer, fine, refused, choose}
 use Rattle.program.specs.Layout.{Program}
-use Rattle.program.specs.Variable.{Variable}
 use Rattle.program.specs.declared.instruction.Instruction.{Instruction}
 use Rattle.program.specs.declared.refusal.Refusal.the-variants as refusal
 use Rattle.program.specs.declared.variable.Kind.{Kind}

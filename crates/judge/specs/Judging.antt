@@ -1,14 +1,14 @@
 -- The rules of judging over structured code, in reading order (document 01, "Lock discipline", "Atomicities"; source 003, section 3;
 -- "Who can bring a number about": the writer's part), and the report.
-use Prim.Native.Nat.{ℕ, zero, suc, _+_, _*_}
-use mathlib.Core.Bool.{Bool, true, false, not}
+use Prim.Native.Nat.{ℕ, suc, _+_, _*_}
+use mathlib.Core.Bool.{Bool, not}
 use mathlib.Core.List.{List, [], _∷_, _++_}
 use lib.ListN.{length}
 use lib.Dec.{eqb}
 use Rattle.atomicity.specs.Atomicity.{reportByte, composition, join, closure}
 use Rattle.atomicity.specs.declared.Atomicity.{Atomicity}
 use Rattle.atomicity.specs.declared.Atomicity.the-variants.{Both, Top}
-use Rattle.program.specs.Choice.{Answer, fine, refused, _>>=_, _>>_, require}
+use Rattle.program.specs.Choice.{Answer, fine, _>>=_, _>>_, require}
 use Rattle.program.specs.Code.{Code, done, plain, choice, loop, block, size, structured}
 use Rattle.program.specs.Layout.{Program, CodeSection}
 use Rattle.program.specs.declared.refusal.Refusal.the-variants.{SetsDiffer, NotAtomic}

@@ -159,6 +159,7 @@ fn body_end(d: usize, depth: usize, locks: LockSet, sofar: Atomicity, frame: Fra
     refusing(Refusal::SetsDiffer(d))
 }
 
+// By the report's bytes, one for each atomicity: `==` on enums is not covered.
 fn is_top(a: Atomicity) -> bool
     ensures { λ r. ⌜ r ≡ isTop a ⌝ }
 {

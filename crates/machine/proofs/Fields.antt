@@ -1,9 +1,10 @@
 -- What a sound file's instruction reaches, and where it goes. Assumes nothing.
+--     names           what the instruction of a match's arm names
 --     wider           its fields fit arrays that are at least as long as the counts
 --     access-below    its shared access lies below the counts
 --     place-inside    from a place of well nested code it goes to a place of that code, or to its end
 use Prim.Native.Nat.{ℕ, _+_, _≤_, _<_}
-use mathlib.Core.Path.{_≡_, refl}
+use mathlib.Core.Path.{_≡_, refl, subst}
 use mathlib.Core.Bool.{Bool, true, false}
 use mathlib.Core.List.{List, []}
 use native.Mathlib.Nat.{lt-of-lt-of-le}
@@ -21,6 +22,9 @@ use Rattle.program.specs.declared.instruction.Form.the-variants as form
 use Rattle.program.proofs.Jumps.{jump-if, jump-else, jump-while}
 use Rattle.program.specs.Access.{Access, none, reads, writes, takes, gives, accessOf}
 use Rattle.machine.specs.Step.{placeAfter, branch, reg}
+
+pub names : {i j : Instruction} → i ≡ j → FieldsGood 16 64 i → FieldsGood 16 64 j
+names e h = subst (FieldsGood 16 64) e h
 
 -- the locks and variables of an access lie below these counts
 abbrev pub AccessBelow : (locks variables : ℕ) → Access → Type 0

@@ -109,7 +109,7 @@ fn branched(r: [u32; 8], a: u8, n: u16, place: usize) -> usize
     place + 1
 }
 
-// Where AGAIN goes: back by its distance.
+// Where AGAIN goes: back by its distance, to its WHILE. Nested code never comes to the 0, which subtraction of natural numbers answers.
 fn back(place: usize, n: u16) -> usize
     ensures { λ p. ⌜ p ≡ place - n ⌝ }
 {

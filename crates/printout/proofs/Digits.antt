@@ -3,11 +3,11 @@
 use mathlib.Core.Path.{_≡_, refl, sym, ap, _∙_}
 use mathlib.Core.Logic.{_⊎_, inl, inr, ⊎-elim}
 use mathlib.Core.List.{List, [], _∷_, _++_, append-assoc, append-nil}
-use Prim.Native.Nat.{ℕ, zero, suc, _+_, _*_, _/_, _%_, _^_, _≤_, _<_}
+use Prim.Native.Nat.{ℕ, zero, suc, _+_, _/_, _%_, _^_, _≤_, _<_}
 use native.Mathlib.Omega.{arith, not-le}
 use native.Mathlib.Nat.{pow-suc}
 use lib.ListN.{length, getD, take, drop, length-append, length-drop}
-use lib.Seq.{take-suc, getD-drop, length-take-le}
+use lib.Seq.{take-suc, getD-drop}
 use native.Mathlib.Decide.{decLe}
 use borrow.Author.Tests.{lt-ltb, le-ltb}
 use Rattle.printout.specs.Text.{hex, hexes, digits, decimal}
@@ -20,11 +20,6 @@ unfolding hexes
 hexes-append [] ys = refl
 hexes-append (x ∷ xs) ys = ap (λ (z : List ℕ). hex x ++ z) (hexes-append xs ys) ∙ sym (append-assoc (hex x) (hexes xs) (hexes ys))
 
-pub hexes-length : (xs : List ℕ) → length (hexes xs) ≡ 2 * length xs
-unfolding hexes hex
-hexes-length [] = refl
-hexes-length (x ∷ xs) = omega (arith, hexes-length xs)
-
 -- one raw byte more
 pub raw-more : (s : List ℕ) (from i : ℕ) → from + i < length s → raw s from (suc i) ≡ raw s from i ++ hex (getD s (from + i) 0)
 unfolding raw hexes
@@ -33,10 +28,6 @@ raw-more s from i h =
     ∙ hexes-append (take i (drop from s)) (getD (drop from s) i 0 ∷ [])
     ∙ ap (λ (z : ℕ). raw s from i ++ (hex z ++ [])) (getD-drop from s i 0)
     ∙ ap (λ (z : List ℕ). raw s from i ++ z) (append-nil (hex (getD s (from + i) 0)))
-
-pub raw-length : (s : List ℕ) (from n : ℕ) → from + n ≤ length s → length (raw s from n) ≡ 2 * n
-unfolding raw
-raw-length s from n h = hexes-length (take n (drop from s)) ∙ ap (λ (z : ℕ). 2 * z) (length-take-le n (drop from s) (rw (length-drop from s) (omega arith)))
 
 -- Decimal
 

@@ -4,7 +4,7 @@
 use mathlib.Core.Path.{_≡_, refl, sym, ap, _∙_}
 use mathlib.Core.List.{List, [], _∷_, _++_, append-assoc}
 use Prim.Native.Nat.{ℕ, zero, suc, _+_, _-_, _*_, _≤_, _<_}
-use native.Mathlib.Nat.{sub-zero, mul-suc, add-zero, zero-add}
+use native.Mathlib.Nat.{sub-zero, add-zero, zero-add}
 use native.Mathlib.Numerals.{add-one, one-add}
 use native.Mathlib.Omega.{arith}
 use lib.ListN.{length, getD, drop, length-append, List·getD-append}
@@ -16,6 +16,7 @@ use Rattle.program.specs.Variable.{Variable, variableAt}
 use Rattle.program.specs.declared.instruction.Instruction.{Instruction}
 use Rattle.program.specs.declared.instruction.Instruction.the-variants.{End}
 use Rattle.program.specs.declared.layout.Layout.{Layout}
+use Rattle.program.proofs.Sound
 use Rattle.program.proofs.Contents.{length-instructions, getD-instructions, length-variables, getD-variables, length-threads}
 use Rattle.printout.specs.Line.{instructionLine, codeLines, threadLines, wholeLines, variableLine, variableLines, lines}
 use Rattle.printout.specs.Item.{variablesLine, threadLine, headLines, itemLines, itemLine, wholeLine, Walk, linesFrom, wholesFrom}
@@ -105,14 +106,9 @@ module _ (locks variables : ℕ) (s : List ℕ) (n t at : ℕ) (report : List �
 -- A walk over the code sections
 
 -- a sound file's instructions are few
-sections-few : (s : List ℕ) (locks variables n at m : ℕ) → SoundSections s locks variables n at m → m ≤ 1024 * n
-sections-few s locks variables zero at m x = omega (arith, x .1)
-sections-few s locks variables (suc n) at m x =
-    omega (arith, x .1 .few, x .2, sections-few s locks variables n (at + 2 + 4 * countAt s at) (x .0) (x .3), mul-suc 1024 n)
-
 pub instructions-few : {s : List ℕ} {l : Layout} → SoundFile s l → l .instructions ≤ 8192
 instructions-few {s} {l} f =
-    omega (arith, sections-few s (l .locks) (l .variables) (l .threads) (5 + 6 * l .variables) (l .instructions) (f .sections), f .threads)
+    omega (arith, Sound.instructions-few s (l .locks) (l .variables) (l .threads) (5 + 6 * l .variables) (l .instructions) (f .sections), f .threads)
 
 -- where it starts
 pub walk-start : (s : List ℕ) (l : Layout) → SoundFile s l → Walk s l 0 (5 + 6 * l .variables) 0

@@ -1,5 +1,5 @@
 -- Every line of the printout, in order (document 01, "Line and bench").
-use Prim.Native.Nat.{ℕ, zero, suc, _+_, _-_, _*_}
+use Prim.Native.Nat.{ℕ, suc, _+_, _-_, _*_}
 use Prim.Native.String.{String}
 use mathlib.Core.List.{List, [], _∷_, _++_}
 use lib.ListN.{length, getD, take, drop}
@@ -12,7 +12,7 @@ use Rattle.program.specs.declared.instruction.Instruction.the-variants.{Set, Co
 use Rattle.program.specs.declared.refusal.Refusal.{Refusal}
 use Rattle.program.specs.declared.variable.Kind.{Kind}
 use Rattle.program.specs.declared.variable.Kind.the-variants.{Guarded, Own, Fixed, Open}
-use Rattle.printout.specs.Text.{ascii, hex, hexes, decimal, lineOf}
+use Rattle.printout.specs.Text.{ascii, hexes, decimal, lineOf}
 
 -- n raw bytes of the file from an offset on
 unfoldable pub raw : List ℕ → (at n : ℕ) → List ℕ

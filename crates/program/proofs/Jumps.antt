@@ -1,9 +1,9 @@
--- Where nesting passes, every distance leads to a place of the code: `jump-if`, `jump-else`, `jump-while`, `jump-atomic` forwards,
--- `jump-again` backwards.
+-- Where nesting passes, every distance leads to a place of the code: `jump`, and `jump-if`, `jump-else`, `jump-while` for those that a
+-- thread goes by, forwards.
 --
 -- In order: one turn of the scan, from its end to its beginning; the whole scan; one place.
 -- Assumes nothing.
-use Prim.Native.Nat.{ℕ, zero, suc, _+_, _≤_, _<_}
+use Prim.Native.Nat.{ℕ, zero, suc, _+_, _<_}
 use native.Mathlib.Nat.{add-zero, zero-add, add-suc, suc-add}
 use native.Mathlib.Omega.{arith}
 use mathlib.Core.Path.{_≡_, sym, subst}
@@ -12,7 +12,7 @@ use lib.ListN.{length, getD}
 use Rattle.program.specs.declared.found.Found.the-variants.{Nowhere}
 use Rattle.program.specs.declared.instruction.Instruction.{Instruction}
 use Rattle.program.specs.declared.instruction.Instruction.the-variants as instruction
-use Rattle.program.specs.declared.instruction.Form.the-variants.{If, Else, While, Again, Atomic}
+use Rattle.program.specs.declared.instruction.Form.the-variants.{If, Else, While}
 use Rattle.program.specs.declared.nesting.Entry.{Entry}
 use Rattle.program.specs.declared.nesting.Entry.the-variants as entry
 use Rattle.program.specs.Instruction.{formOf}
@@ -72,9 +72,3 @@ module _ (is : List Instruction) (h : firstBroken 0 is [] ≡ Nowhere) (i : ℕ)
 
   pub jump-while : (r n : ℕ) → formOf (getD is i instruction.End) ≡ While r n → i + n < length is
   jump-while r n e = rw e at jump
-
-  pub jump-again : (n : ℕ) → formOf (getD is i instruction.End) ≡ Again n → n ≤ i
-  jump-again n e = rw e at jump
-
-  pub jump-atomic : (n : ℕ) → formOf (getD is i instruction.End) ≡ Atomic n → i + n < length is
-  jump-atomic n e = rw e at jump

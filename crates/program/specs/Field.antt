@@ -3,7 +3,7 @@ use Prim.Native.Nat.{ℕ, _+_, _*_, _/_, _%_}
 use mathlib.Core.Bool.{Bool, _&&_}
 use mathlib.Core.List.{List}
 use lib.ListN.{length, getD}
-use lib.Dec.{ltb, leb, eqb}
+use lib.Dec.{leb, eqb}
 use Rattle.program.specs.Choice.{choose}
 use Rattle.program.specs.declared.cursor.Cursor.{Cursor}
 use Rattle.program.specs.declared.cursor.Field.{Field}

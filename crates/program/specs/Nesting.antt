@@ -1,7 +1,7 @@
 -- Nesting (document 01, "The file": from "A place is an instruction's index in its thread" on), as a scan with the open entries,
 -- innermost first.
 use Prim.Native.Nat.{ℕ, suc, _+_}
-use mathlib.Core.Bool.{Bool, true, false, _&&_, not}
+use mathlib.Core.Bool.{Bool, true, _&&_, not}
 use mathlib.Core.List.{List, [], _∷_}
 use lib.ListN.{length}
 use lib.Dec.{ltb, eqb}

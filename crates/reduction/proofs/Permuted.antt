@@ -7,7 +7,7 @@ use native.Mathlib.Decide.{ℕ-discrete}
 use mathlib.Core.Path.{_≡_, refl, sym, ap, _∙_}
 use mathlib.Core.Logic.{_≢_, ite}
 use mathlib.Core.List.{List, [], _∷_, _++_}
-use Rattle.reduction.specs.Sequence.{All, all-nil, all-cons, AllPairs, pairs-nil, pairs-cons, total}
+use Rattle.reduction.specs.Sequence.{All, all-nil, all-cons, pairs-cons, total}
 use Rattle.reduction.specs.Moves.{Moves}
 use Rattle.reduction.specs.Reduction.{movesOf, Ordered}
 use Rattle.reduction.specs.Serial.{Permuted, same, swap, prep, trans}

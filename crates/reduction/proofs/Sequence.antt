@@ -1,6 +1,5 @@
 -- Laws of `All`, `AllPairs` and `total`: at the head, at `_++_`, where everything is related, and at the weight 1.
 -- Assumes nothing.
-use Prim.Native.Nat.{ℕ}
 use native.Mathlib.Omega.{arith}
 use mathlib.Core.Path.{_≡_, refl}
 use mathlib.Core.List.{List, [], _∷_, _++_}

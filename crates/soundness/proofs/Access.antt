@@ -4,6 +4,7 @@ use native.Mathlib.Omega.{arith}
 use mathlib.Core.Path.{_≡_, refl}
 use mathlib.Core.Bool.{Bool, true, false}
 use Rattle.judge.specs.Discipline.{kindAt, permits, lockSetAfter, locksAfter}
+use Rattle.judge.proofs.Answers.{fine-inj}
 use Rattle.judge.specs.LockSet.{holds, withLock, withoutLock}
 use Rattle.judge.specs.declared.lock_set.LockSet.{LockSet}
 use Rattle.program.specs.Access.{Access, none, reads, writes, takes, gives, accessOf}
@@ -24,9 +25,6 @@ unheld : {A : Type 0} (b : Bool) (x : A) (r : Refusal) {y : A} → choose b (ref
 unheld true x r e = absurd (let z : _≡_ {A = ℕ} 0 1 = cc in omega arith)
 unheld false x r e = cc
 
-fine-injective : {A : Type 0} {x y : A} → fine x ≡ fine y → x ≡ y
-fine-injective e = cc
-
 access-permitted : (p : Program) (t d : ℕ) (x : Access) (s : LockSet) {s′ : LockSet} → lockSetAfter p t d x s ≡ fine s′ → Permitted p t s x
 unfolding lockSetAfter
 access-permitted p t d none s e = none-permitted
@@ -37,7 +35,7 @@ access-permitted p t d (gives k) s e = give-permitted (held (holds s k) (without
 
 access-set : (p : Program) (t d : ℕ) (x : Access) (s : LockSet) {s′ : LockSet} → lockSetAfter p t d x s ≡ fine s′ → setAfter x s ≡ s′
 unfolding lockSetAfter setAfter
-access-set p t d none s e = fine-injective e
+access-set p t d none s {s′} e = fine-inj s s′ e
 access-set p t d (reads v) s e = held (permits (kindAt p v) t s false) s _ e .1
 access-set p t d (writes v a) s e = held (permits (kindAt p v) t s true) s _ e .1
 access-set p t d (takes k) s e = unheld (holds s k) (withLock s k) _ e

@@ -17,7 +17,6 @@ use Rattle.program.specs.Code.{Code, size}
 use Rattle.program.specs.Instruction.{formOf}
 use Rattle.program.specs.Layout.{Program}
 use Rattle.program.specs.declared.instruction.Form.the-variants.{Plain}
-use Rattle.program.specs.declared.instruction.Form.the-variants as form
 use Rattle.program.specs.declared.instruction.Instruction.{Instruction}
 use Rattle.program.specs.declared.instruction.Instruction.the-variants.{Set, Copy, Add, Sub, Less, Read, Write, Take, Give, If, Else, While, Again, Atomic, End}
 use Rattle.soundness.specs.Annotation.{Row, row, rows, Reads, Span, Follows, Leads, FlowsFrom, Flows, Part}

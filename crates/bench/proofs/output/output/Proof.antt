@@ -2,7 +2,6 @@
 use borrow.Author.Needs.{needs}
 use native.Mathlib.Omega.{arith}
 use Rattle.hogunlas.proofs.Answers.{as-accepted, as-refused, report-fits}
-use Rattle.hogunlas.proofs.Opening.{opened-by}
 use Rattle.bench.proofs.Answers.{output-refused, output-accepted}
 use Rattle.bench.proofs.output.output.Statement.{statement}
 use Rattle.bench.proofs.output.output.Tie as tie

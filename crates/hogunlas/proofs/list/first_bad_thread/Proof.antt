@@ -1,6 +1,6 @@
 -- `first_bad_thread`: the rest of the search from here equals the whole. Assumes nothing.
 use Prim.Native.Nat.{ℕ, _+_, _-_, _≤_}
-use mathlib.Core.Path.{_≡_, refl, sym, _∙_}
+use mathlib.Core.Path.{_≡_, sym, _∙_}
 use mathlib.Core.Bool.{Bool, true, false}
 use lib.Dec.{ltb}
 use lib.ListN.{length, getD}

@@ -1,6 +1,5 @@
 -- `passing` meets its contract. Assumes nothing.
 use borrow.Author.Needs.{needs}
-use mathlib.Core.Path.{refl}
 use Rattle.program.specs.Access.{accessOf}
 use Rattle.judge.specs.Turns.{setAfter, moved}
 use Rattle.judge.proofs.scan.passing.Statement.{statement}

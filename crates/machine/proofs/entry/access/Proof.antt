@@ -1,17 +1,12 @@
 -- `access` meets its contract, arm by arm. Assumes nothing.
-use mathlib.Core.Path.{_≡_, refl, subst}
+use mathlib.Core.Path.{refl}
 use borrow.Author.Needs.{needs}
-use Rattle.program.specs.Sound.{FieldsGood}
-use Rattle.program.specs.declared.instruction.Instruction.{Instruction}
+use Rattle.machine.proofs.Fields.{names}
 use Rattle.machine.specs.Reached.{shared, locksLeft}
 use Rattle.program.specs.Access.{accessOf}
 use Rattle.machine.specs.Step.{waits, valueRead, variablesAfter, locksAfter}
 use Rattle.machine.proofs.entry.access.Statement.{statement}
 use Rattle.machine.proofs.entry.access.Tie as tie
-
--- what the arm's instruction names
-names : {i j : Instruction} → i ≡ j → FieldsGood 16 64 i → FieldsGood 16 64 j
-names e h = subst (FieldsGood 16 64) e h
 
 enum-told : tie.Need-enum-told
 enum-told c = search needs

@@ -1,15 +1,9 @@
 -- `place_after` meets its contract, arm by arm. Assumes nothing.
-use mathlib.Core.Path.{_≡_, subst}
 use borrow.Author.Needs.{needs}
-use Rattle.program.specs.declared.instruction.Instruction.{Instruction}
-use Rattle.program.specs.Sound.{FieldsGood}
+use Rattle.machine.proofs.Fields.{names}
 use Rattle.machine.specs.Step.{placeAfter}
 use Rattle.machine.proofs.thread.place_after.Statement.{statement}
 use Rattle.machine.proofs.thread.place_after.Tie as tie
-
--- what the arm's instruction names
-names : {i j : Instruction} → i ≡ j → FieldsGood 16 64 i → FieldsGood 16 64 j
-names e h = subst (FieldsGood 16 64) e h
 
 add-next : tie.Need-add-next
 add-next c = search needs

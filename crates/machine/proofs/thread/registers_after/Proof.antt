@@ -1,15 +1,9 @@
 -- `registers_after` meets its contract, arm by arm: what a register holds, and the registers with another value in one. Assumes nothing.
-use mathlib.Core.Path.{_≡_, subst}
 use borrow.Author.Needs.{needs}
-use Rattle.program.specs.declared.instruction.Instruction.{Instruction}
-use Rattle.program.specs.Sound.{FieldsGood}
+use Rattle.machine.proofs.Fields.{names}
 use Rattle.machine.specs.Step.{registersAfter}
 use Rattle.machine.proofs.thread.registers_after.Statement.{statement}
 use Rattle.machine.proofs.thread.registers_after.Tie as tie
-
--- what the arm's instruction names
-names : {i j : Instruction} → i ≡ j → FieldsGood 16 64 i → FieldsGood 16 64 j
-names e h = subst (FieldsGood 16 64) e h
 
 enum-known-i : tie.Need-enum-known-i
 enum-known-i c = search needs
