@@ -2,6 +2,7 @@
 //! generated ones what the library's calls answer.
 
 mod stored;
+mod vector_file;
 
 use std::collections::BTreeMap;
 use std::env;
@@ -85,6 +86,15 @@ fn prints_the_stored(folder: &str) {
     for case in stored::all(folder) {
         assert_prints(&case.file, &case.printout, &case.name);
     }
+}
+
+#[test]
+fn bench_prints_its_vectors() {
+    let vectors = include_str!("../../reference/vectors/bench.txt");
+    vector_file::each_case(vectors, |case| {
+        let name = format!("line {} of bench.txt", case.line);
+        assert_prints(&case.bytes(1), &case.bytes(2), &name);
+    });
 }
 
 #[test]

@@ -7,4 +7,6 @@ mod judge;
 mod line;
 mod run;
 mod support;
+#[path = "../vector_file/mod.rs"]
+mod vector_file;
 mod vectors;

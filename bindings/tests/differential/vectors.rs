@@ -4,69 +4,7 @@
 use hogunlas::Refusal;
 
 use crate::support::lend;
-
-/// One line of a vector file, split into fields.
-struct Case<'t> {
-    fields: Vec<&'t str>,
-    line: usize,
-}
-
-impl Case<'_> {
-    fn bytes(&self, field: usize) -> Vec<u8> {
-        bytes(self.fields[field])
-    }
-
-    fn number(&self, field: usize) -> u64 {
-        number(self.fields[field])
-    }
-
-    /// The answer that starts at a field: what `answer` makes of the fields from there, with the
-    /// bytes it lays into the buffer, or the refusal that they state.
-    fn expected<T>(
-        &self,
-        from: usize,
-        answer: impl Fn(&[&str]) -> (T, Vec<u8>),
-    ) -> Result<(T, Vec<u8>), Refusal> {
-        match &self.fields[from..] {
-            ["refused", n, detail] => Err(Refusal {
-                number: number(n) as u32,
-                detail: number(detail),
-            }),
-            fields => Ok(answer(fields)),
-        }
-    }
-}
-
-fn number(field: &str) -> u64 {
-    field.parse().expect("a decimal number")
-}
-
-/// Bytes in hexadecimal; `-` stands for none.
-fn bytes(field: &str) -> Vec<u8> {
-    if field == "-" {
-        return Vec::new();
-    }
-    let digit = |byte: u8| char::from(byte).to_digit(16).expect("a digit") as u8;
-    let pairs = field.as_bytes().chunks_exact(2);
-    assert!(pairs.remainder().is_empty());
-    pairs
-        .map(|pair| digit(pair[0]) << 4 | digit(pair[1]))
-        .collect()
-}
-
-/// Checks each line of a vector file, and that there are as many as newlines.
-fn each_case(text: &str, check: impl Fn(&Case)) {
-    let mut cases = 0;
-    for (index, line) in text.lines().enumerate() {
-        check(&Case {
-            fields: line.split(' ').collect(),
-            line: index + 1,
-        });
-        cases += 1;
-    }
-    assert!(cases > 0);
-    assert_eq!(cases, text.matches('\n').count());
-}
+use crate::vector_file::{bytes, each_case, number, Case};
 
 /// Lends a buffer to the call, and another to the expected answer's bytes: the two must look alike.
 fn check<T: std::fmt::Debug + PartialEq + Copy>(
