@@ -1,4 +1,8 @@
 -- A table of src/, whose rows and columns stand in the order of the report bytes, read at two atomicities. Assumes nothing.
+--     column-below   the row and the column of an atomicity are below 5
+--     valuesOf, valuesOf-at
+--                    a function's values in that order; reading them at an atomicity is the function's value
+--     table-at       what `TABLE[i][j]` answers, for a table of a function of two
 use Prim.Native.Nat.{_<_}
 use mathlib.Core.Path.{_≡_, refl, _∙_, ap}
 use mathlib.Core.List.{List, [], _∷_}
@@ -17,17 +21,17 @@ column-below Atomic = lit< tt
 column-below Top = lit< tt
 
 module _ {A : Type 0} where
-  abbrev pub row : (Atomicity → A) → List A
-  row f = f Both ∷ f Left ∷ f Right ∷ f Atomic ∷ f Top ∷ []
+  abbrev pub valuesOf : (Atomicity → A) → List A
+  valuesOf f = f Both ∷ f Left ∷ f Right ∷ f Atomic ∷ f Top ∷ []
 
-  pub row-at : (f : Atomicity → A) (a : Atomicity) (d : A) → getD (row f) (column a) d ≡ f a
-  row-at f Both d = refl
-  row-at f Left d = refl
-  row-at f Right d = refl
-  row-at f Atomic d = refl
-  row-at f Top d = refl
+  pub valuesOf-at : (f : Atomicity → A) (a : Atomicity) (d : A) → getD (valuesOf f) (column a) d ≡ f a
+  valuesOf-at f Both d = refl
+  valuesOf-at f Left d = refl
+  valuesOf-at f Right d = refl
+  valuesOf-at f Atomic d = refl
+  valuesOf-at f Top d = refl
 
 -- what `TABLE[i][j]` answers, for a table of the function f
 pub table-at : {A : Type 0} (f : Atomicity → Atomicity → A) (a b : Atomicity) (d : A)
-    → getD (getD (row (λ (x : Atomicity). row (f x))) (column a) []) (column b) d ≡ f a b
-table-at f a b d = ap (λ (l : List _). getD l (column b) d) (row-at (λ (x : Atomicity). row (f x)) a []) ∙ row-at (f a) b d
+    → getD (getD (valuesOf (λ (x : Atomicity). valuesOf (f x))) (column a) []) (column b) d ≡ f a b
+table-at f a b d = ap (λ (l : List _). getD l (column b) d) (valuesOf-at (λ (x : Atomicity). valuesOf (f x)) a []) ∙ valuesOf-at (f a) b d

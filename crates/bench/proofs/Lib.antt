@@ -1,5 +1,5 @@
 -- Laws of the output.
 --     Lines     lines laid over a buffer one after the other
---     Answers   what is printed for each answer of judging
+--     Outputs   what is printed for each answer of judging
 pub mod Lines
-pub mod Answers
+pub mod Outputs

@@ -1,3 +1,2 @@
 -- Definitions for bench's proofs; what a reader must believe is `benchOutput` of hogunlas's specs/Calls.antt.
---     Printing   how far printing has come
-pub mod Printing
+pub mod Internal

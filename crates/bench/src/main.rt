@@ -5,12 +5,14 @@ mod output;
 use crate::output::output;
 use libc::STDIN_FILENO;
 use libc::STDOUT_FILENO;
+use program::limits::BENCH_LIMIT;
+use program::limits::OUTPUT_LIMIT;
 
 fn main() {
     // "It reads at most 33,174 bytes; more can't alter the answer."
-    let mut input = [0u8; 33174];
+    let mut input = [0u8; BENCH_LIMIT];
     let n = io::read_full(STDIN_FILENO, &mut input);
-    let mut text = [0u8; 397248];
+    let mut text = [0u8; OUTPUT_LIMIT];
     let m = output(&input[..n], &mut text);
     io::write_all(STDOUT_FILENO, &text[..m]);
 }

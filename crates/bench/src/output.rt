@@ -1,22 +1,24 @@
-// What bench prints, put into a lent buffer that is large enough for the longest printout: 4 + 64 + 8 + 8,192 + 8 lines of at most 48
-// bytes.
+// What bench prints, put into a lent buffer that is large enough for the longest printout (OUTPUT_LIMIT).
 use judge::judging::Judging;
 use judge::judging::judge_file;
 use printout::line::refusal_line;
 use printout::print::line_count;
 use printout::print::write_line;
 use program::layout::Layout;
+use program::limits::REPORT_LIMIT;
 ghost use mathlib.Core.Path.{_≡_};
 ghost use Prim.Native.Nat.{_+_, _≤_};
 ghost use lib.ListN.{length};
+ghost use Rattle.program.specs.Answer.{fine};
+ghost use Rattle.program.specs.Limits.{benchLimit};
+ghost use Rattle.program.specs.Internal.Bounds.{outputLimit};
 ghost use Rattle.program.specs.Layout.{programOf, reading};
-ghost use Rattle.program.specs.declared.layout.Reading.the-variants.{Sound};
 ghost use Rattle.printout.specs.Line.{lines};
 ghost use Rattle.hogunlas.specs.Calls.{benchOutput, joined, laidOver};
 
 // All lines of an accepted file, with its report, one after the other; answers how many bytes they take.
 fn print_lines(file: &[u8], l: Layout, report: &[u8], text: &mut [u8]) -> usize
-    requires { ⌜ (reading (now file) ≡ Sound l) × (l .instructions + l .threads ≤ length (now report)) × (397248 ≤ length (now text)) ⌝ }
+    requires { ⌜ (reading (now file) ≡ fine l) × (l .instructions + l .threads ≤ length (now report)) × (outputLimit ≤ length (now text)) ⌝ }
     ensures result { λ r. ⌜ r ≡ length (joined (lines (now (file .entry)) (programOf (now (file .entry)) l) (now (report .entry)))) ⌝ }
     ensures buffer { λ _. ⌜ now (text .exit) ≡ laidOver (joined (lines (now (file .entry)) (programOf (now (file .entry)) l) (now (report .entry)))) (now (text .entry)) ⌝ }
 {
@@ -32,14 +34,14 @@ fn print_lines(file: &[u8], l: Layout, report: &[u8], text: &mut [u8]) -> usize
 
 // The whole output for an input, laid over the front of the buffer; answers how many bytes it takes.
 pub fn output(input: &[u8], text: &mut [u8]) -> usize
-    requires { ⌜ (length (now input) ≤ 33174) × (397248 ≤ length (now text)) ⌝ }
+    requires { ⌜ (length (now input) ≤ benchLimit) × (outputLimit ≤ length (now text)) ⌝ }
     ensures result { λ r. ⌜ r ≡ length (benchOutput (now (input .entry))) ⌝ }
     ensures buffer { λ _. ⌜ now (text .exit) ≡ laidOver (benchOutput (now (input .entry))) (now (text .entry)) ⌝ }
 {
-    let mut report = [0u8; 8200];
+    let mut report = [0u8; REPORT_LIMIT];
     let judging = judge_file(input, &mut report);
     match judging {
         Judging::Refused(refusal) => refusal_line(refusal, text),
-        Judging::Accepted(l, _) => print_lines(input, l, &report, text),
+        Judging::Done(l, _) => print_lines(input, l, &report, text),
     }
 }

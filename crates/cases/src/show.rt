@@ -2,13 +2,15 @@
 use hogunlas::Judged;
 use hogunlas::Printed;
 use hogunlas::Ran;
+use program::limits::LINE_SIZE;
+use program::limits::REPORT_LIMIT;
 use program::refusal::Refusal;
 use program::refusal::detail;
 use program::refusal::number;
 
 pub fn judge(name: &[u8], file: &[u8]) {
     text(name);
-    let mut report = [0u8; 8200];
+    let mut report = [0u8; REPORT_LIMIT];
     match hogunlas::judge(file, &mut report) {
         Judged::Refused(refusal) => refused(refusal),
         Judged::Report(n) => {
@@ -25,7 +27,7 @@ pub fn run(name: &[u8], file: &[u8], list: &[u8]) {
     let mut state = [255u8; 40];
     match hogunlas::run(file, list, &mut state) {
         Ran::Refused(refusal) => refused(refusal),
-        Ran::Counts(moved, waiting, idle) => {
+        Ran::Counted(moved, waiting, idle) => {
             decimal(b"moved ", moved);
             decimal(b", waiting ", waiting);
             decimal(b", idle ", idle);
@@ -38,7 +40,7 @@ pub fn run(name: &[u8], file: &[u8], list: &[u8]) {
 
 pub fn line(name: &[u8], file: &[u8], i: usize) {
     text(name);
-    let mut out = [0u8; 48];
+    let mut out = [0u8; LINE_SIZE];
     match hogunlas::line(file, i, &mut out) {
         Printed::Refused(refusal) => refused(refusal),
         Printed::Line(n) => text(first(&out, n)),

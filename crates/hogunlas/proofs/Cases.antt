@@ -1,4 +1,5 @@
--- Document 01's starred cases hold of the definitions: one computed theorem over the table. Assumes nothing.
+-- Document 01's starred cases hold of the definitions. Assumes nothing.
+--     starred-cases   one computed theorem over the table
 use mathlib.Core.Path.{_≡_, refl}
 use mathlib.Core.List.{map}
 use Rattle.hogunlas.specs.Cases.{Case, starred}

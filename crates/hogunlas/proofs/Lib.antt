@@ -1,7 +1,7 @@
 -- Theorems over the definitions that belong to no one function.
 --     Definitions   all definitions open
 --     Opening       what is known of an accepted file
---     Answers       what each call answers where its code returns
+--     JudgeCall     what judge answers where its code returns
 --     Running       ... of run
 --     Printing      ... of line
 --     Numbers       a refusal as C gets it
@@ -10,7 +10,7 @@
 --     Examples      worked examples, computed
 pub mod Definitions
 pub mod Opening
-pub mod Answers
+pub mod JudgeCall
 pub mod Running
 pub mod Printing
 pub mod Numbers

@@ -1,4 +1,5 @@
 -- A refusal as the numbers that C gets. Assumes nothing.
+--     judged-refused, ran-refused, printed-refused   of judge, of run, of line: its number and detail, and 0 for the rest
 use Prim.Native.Nat.{ℕ}
 use mathlib.Core.Path.{_≡_}
 use Rattle.program.specs.Refusal.{numberOf, detailOf}

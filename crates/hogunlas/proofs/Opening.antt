@@ -1,32 +1,36 @@
 -- From judge_file's answer to what is known of the file, and the sizes of its program. Assumes nothing.
-use Prim.Native.Nat.{ℕ, _+_, _*_, _≤_}
-use mathlib.Core.Path.{_≡_, refl, _∙_, ap}
+--     program-of                                   an accepted file's program is the one that reading finds
+--     opened-by                                    a file that judge_file accepted is accepted with the report it left
+--     count-threads, count-variables, count-locks  how many the program has
+--     state-size                                   the bytes that the end state takes
+--     opened-sound                                 an accepted file is sound
+--     counts-small                                 a sound file's counts are within the limits
+use Prim.Native.Nat.{ℕ, _≤_}
+use mathlib.Core.Path.{_≡_, refl, sym, _∙_, ap}
 use mathlib.Core.List.{List}
 use native.Mathlib.Omega.{arith}
 use lib.ListN.{length}
 use Rattle.judge.specs.Acceptance.{Accepted, accept, sound}
 use Rattle.judge.specs.Judging.{judgeProgram}
-use Rattle.judge.specs.Judgement.{AcceptedAs}
-use Rattle.program.proofs.Contents.{length-threads, length-variables}
+use Rattle.judge.specs.Internal.Judgement.{AcceptedAs}
+use Rattle.program.proofs.Answer.{fine-inj, bind-inv}
+use Rattle.program.proofs.Contents.{length-variables}
 use Rattle.program.proofs.Sound.{sound-file, instructions-few}
-use Rattle.program.specs.Choice.{Answer, fine, refused, _>>=_}
+use Rattle.program.specs.Answer.{fine}
 use Rattle.program.specs.Layout.{Program, programOf, reading}
-use Rattle.program.specs.Sound.{SoundFile}
+use Rattle.program.specs.Limits.{threadLimit, variableLimit, recordOffset, sizeOfState}
+use Rattle.program.specs.Internal.Bounds.{programLimit}
+use Rattle.program.specs.Internal.Sound.{SoundFile}
 use Rattle.program.specs.declared.layout.Layout.{Layout}
-use Rattle.program.specs.declared.layout.Reading.the-variants.{Sound}
 use Rattle.hogunlas.specs.Calls.{stateSize}
-use Rattle.hogunlas.specs.Opened.{Opened, OpenedFile}
-
--- an accepted program was judged to its report
-accepted-program : (p : Program) (x : Answer (List ℕ)) (a : Accepted)
-    → (x >>= λ (report : List ℕ). fine (record { program = p; report = report })) ≡ fine a → a .program ≡ p
-accepted-program p (fine report) a e = cc
-accepted-program p (refused r) a e = cc
+use Rattle.hogunlas.specs.Internal.Opened.{Opened, OpenedFile}
 
 -- an accepted file's program is the one that reading finds
-pub program-of : (s : List ℕ) (l : Layout) (a : Accepted) → reading s ≡ Sound l → accept s ≡ fine a → a .program ≡ programOf s l
+pub program-of : (s : List ℕ) (l : Layout) (a : Accepted) → reading s ≡ fine l → accept s ≡ fine a → a .program ≡ programOf s l
 unfolding accept sound
-program-of s l a reads accepts = accepted-program (programOf s l) (judgeProgram (programOf s l)) a (rw reads at accepts)
+program-of s l a reads accepts =
+    bind-inv (judgeProgram (programOf s l)) _ (rw reads at accepts) λ report _ answer.
+    sym (ap (λ (a : Accepted). a .program) (fine-inj _ a answer))
 
 pub opened-by : {s before after : List ℕ} {l : Layout} {n : ℕ} (found : AcceptedAs s before after l n) → Opened s l (found .accepted .report)
 opened-by {s} {before} {after} {l} found =
@@ -37,9 +41,9 @@ opened-by {s} {before} {after} {l} found =
 
 module _ (s : List ℕ) (l : Layout) where
   -- how many threads and variables the program has
-  pub count-threads : length (programOf s l .threads) ≡ l .threads
+  pub count-threads : programOf s l .threads ≡ l .threads
   unfolding programOf
-  count-threads = length-threads (l .locks) (l .variables) s (l .threads) (5 + 6 * l .variables)
+  count-threads = refl
 
   pub count-variables : length (programOf s l .variables) ≡ l .variables
   unfolding programOf
@@ -50,7 +54,7 @@ module _ (s : List ℕ) (l : Layout) where
   count-locks = refl
 
   -- the bytes that the end state takes
-  pub state-size : stateSize (programOf s l) ≡ 4 * l .variables + l .locks + 34 * l .threads
+  pub state-size : stateSize (programOf s l) ≡ sizeOfState (l .variables) (l .locks) (l .threads)
   unfolding stateSize
   state-size = rw (count-threads, count-variables, count-locks)
 
@@ -59,7 +63,7 @@ pub opened-sound : {s : List ℕ} {l : Layout} → OpenedFile s l → SoundFile 
 opened-sound {s} {l} o = sound-file s l (o .opened .reads)
 
 -- the counts of a sound file are small
-pub counts-small : (s : List ℕ) (l : Layout) → reading s ≡ Sound l → (l .threads ≤ 8) × (l .variables ≤ 64) × (l .instructions ≤ 8192)
+pub counts-small : (s : List ℕ) (l : Layout) → reading s ≡ fine l → (l .threads ≤ threadLimit) × (l .variables ≤ variableLimit) × (l .instructions ≤ programLimit)
 counts-small s l e =
     let file = sound-file s l e in
-    omega (arith, file, instructions-few s (l .locks) (l .variables) (l .threads) (5 + 6 * l .variables) (l .instructions) (file .sections))
+    omega (arith, file, instructions-few s (l .locks) (l .variables) (l .threads) (recordOffset (l .variables)) (l .instructions) (file .sections))

@@ -1,17 +1,17 @@
 -- What each public call answers, and what its buffer then holds (document 01, "Atomicities", "The step machine", "Line and bench";
 -- "Who can bring a number about" for the order of the refusals).
-use Prim.Native.Nat.{ℕ, _+_, _*_}
+use Prim.Native.Nat.{ℕ}
 use mathlib.Core.List.{List, [], _∷_, _++_}
 use lib.ListN.{length, getD, take, drop}
 use lib.Dec.{ltb, leb}
 use Rattle.judge.specs.Acceptance.{Accepted, accept}
-use Rattle.machine.specs.Run.{Run, Counts, run}
+use Rattle.machine.specs.Run.{Run, run}
 use Rattle.machine.specs.State.{stateBytes}
 use Rattle.printout.specs.Line.{lines, refusalLine}
-use Rattle.program.specs.Choice.{Answer, fine, refused, _>>=_, _>>_, require, firstBad}
+use Rattle.program.specs.Answer.{Answer, fine, refused, _>>=_, _>>_, require, requireNone}
+use Rattle.program.specs.Limits.{sizeOfState, listLimit, lineSize, benchLimit}
+use Rattle.program.specs.Choice.{firstBad}
 use Rattle.program.specs.Layout.{Program}
-use Rattle.program.specs.declared.found.Found.{Found}
-use Rattle.program.specs.declared.found.Found.the-variants.{Nowhere, At}
 use Rattle.program.specs.declared.refusal.Refusal.the-variants.{LongList, ThreadNumber, ShortBuffer, LineNumber}
 use Rattle.hogunlas.specs.declared.Judged.{Judged}
 use Rattle.hogunlas.specs.declared.Judged.the-variants as judged
@@ -52,26 +52,21 @@ judgeBuffer s buffer = bufferAfter (λ (report : List ℕ). report) (judgeAnswer
 
 -- "That makes 4 bytes a variable, 1 a lock and 34 a thread"
 unfoldable pub stateSize : Program → ℕ
-stateSize p = 4 * length (p .variables) + p .locks + 34 * length (p .threads)
-
--- go on if every thread number of the list is below the count
-abbrev pub requireThreads : {A : Type 0} → Found → Answer A → Answer A
-requireThreads Nowhere rest = rest
-requireThreads (At i) rest = refused (ThreadNumber i)
+stateSize p = sizeOfState (length (p .variables)) (p .locks) (p .threads)
 
 -- the run for a list and a buffer of `room` bytes. "14, list above 65,536 (D 65,536); 15, thread number too large (D its first
 -- index); 16"
 unfoldable pub runAnswer : List ℕ → (list : List ℕ) → (room : ℕ) → Answer Run
 runAnswer s list room = do
   a ← accept s
-  require (leb (length list) 65536) (LongList 65536)
-  requireThreads (firstBad (λ i. ltb (getD list i 0) (length (a .program .threads))) 1 (length list) 0)
+  require (leb (length list) listLimit) (LongList listLimit)
+  requireNone (firstBad (λ i. ltb (getD list i 0) (a .program .threads)) 1 (length list) 0) ThreadNumber
   require (leb (stateSize (a .program)) room) (ShortBuffer (stateSize (a .program)))
   fine (run (a .program) list)
 
 -- "Run returns the counts moved, waiting and idle"
 abbrev pub ranOf : Answer Run → Ran
-ranOf (fine r) = ran.Counts (r .counts .moved) (r .counts .waiting) (r .counts .idle)
+ranOf (fine r) = ran.Counted (r .counts .moved) (r .counts .waiting) (r .counts .idle)
 ranOf (refused r) = ran.Refused r
 
 unfoldable pub runBuffer : List ℕ → List ℕ → List ℕ → List ℕ
@@ -84,7 +79,7 @@ unfoldable pub lineAnswer : List ℕ → (i room : ℕ) → Answer (List ℕ)
 lineAnswer s i room = do
   a ← accept s
   require (ltb i (length (lines s (a .program) (a .report)))) (LineNumber (length (lines s (a .program) (a .report))))
-  require (leb 48 room) (ShortBuffer 48)
+  require (leb lineSize room) (ShortBuffer lineSize)
   fine (getD (lines s (a .program) (a .report)) i [])
 
 -- "result: its length"
@@ -107,4 +102,4 @@ outputOf s (refused r) = refusalLine r
 
 -- "prints all lines, or `refused N at D` and a newline. It reads at most 33,174 bytes"
 unfoldable pub benchOutput : List ℕ → List ℕ
-benchOutput s = outputOf (take 33174 s) (accept (take 33174 s))
+benchOutput s = outputOf (take benchLimit s) (accept (take benchLimit s))

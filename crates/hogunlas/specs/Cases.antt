@@ -8,7 +8,8 @@ use Rattle.atomicity.specs.declared.Atomicity.the-variants.{Left, Right, Atomic
 use Rattle.machine.specs.Run.{Run}
 use Rattle.machine.specs.Step.{registersAfter}
 use Rattle.machine.specs.declared.thread.Thread.{Thread}
-use Rattle.program.specs.Choice.{Answer, fine, refused}
+use Rattle.program.specs.Answer.{Answer, fine, refused}
+use Rattle.program.specs.Limits.{lockLimit, threadLimit, variableLimit, reportLimit, sizeOfState}
 use Rattle.program.specs.Refusal.{numberOf, detailOf}
 use Rattle.program.specs.declared.instruction.Instruction.the-variants.{Add}
 use Rattle.hogunlas.specs.Calls.{judgeAnswer, runAnswer}
@@ -28,15 +29,15 @@ numbersOf numbers (fine a) = numbers a
 numbersOf numbers (refused r) = numberOf r ∷ detailOf r ∷ []
 
 -- the report in a buffer of the size that every report fits
-unfoldable pub reportOf : List ℕ → List ℕ
-reportOf s = numbersOf (λ (report : List ℕ). report) (judgeAnswer s 8200)
+unfoldable pub reportNumbers : List ℕ → List ℕ
+reportNumbers s = numbersOf (λ (report : List ℕ). report) (judgeAnswer s reportLimit)
 
 -- the counts, the places and the locks after a list
-unfoldable pub ranOf : List ℕ → List ℕ → List ℕ
-ranOf s list = numbersOf
+unfoldable pub runNumbers : List ℕ → List ℕ → List ℕ
+runNumbers s list = numbersOf
     (λ (r : Run). r .counts .moved ∷ r .counts .waiting ∷ r .counts .idle
     ∷ map (λ (th : Thread). th .place) (r .state .threads) ++ r .state .locks)
-    (runAnswer s list 600)
+    (runAnswer s list (sizeOfState variableLimit lockLimit threadLimit))
 
 abbrev atomicity : Atomicity → List ℕ
 atomicity a = reportByte a ∷ []
@@ -92,15 +93,15 @@ starred =
     -- ADD of 0xFFFFFFFF and 1 is 0
     ∷ case (registersAfter (Add 0 1 2) 0 (7 ∷ 0xFFFFFFFF ∷ 1 ∷ [])) (0 ∷ 0xFFFFFFFF ∷ 1 ∷ [])
     -- Block of END only: B
-    ∷ case (reportOf (file guardedVariable (ATOMIC 1 ++ END))) (1 ∷ 0 ∷ 1 ∷ [])
+    ∷ case (reportNumbers (file guardedVariable (ATOMIC 1 ++ END))) (1 ∷ 0 ∷ 1 ∷ [])
     -- Block TAKE, READ guarded, WRITE guarded, GIVE: A
-    ∷ case (reportOf (file guardedVariable (ATOMIC 5 ++ TAKE ++ READ ++ WRITE ++ GIVE ++ END))) (4 ∷ 3 ∷ 1 ∷ 1 ∷ 2 ∷ 0 ∷ 4 ∷ [])
+    ∷ case (reportNumbers (file guardedVariable (ATOMIC 5 ++ TAKE ++ READ ++ WRITE ++ GIVE ++ END))) (4 ∷ 3 ∷ 1 ∷ 1 ∷ 2 ∷ 0 ∷ 4 ∷ [])
     -- The same four twice in one block: 13, at the END
-    ∷ case (reportOf (file guardedVariable (ATOMIC 9 ++ TAKE ++ READ ++ WRITE ++ GIVE ++ TAKE ++ READ ++ WRITE ++ GIVE ++ END))) (13 ∷ (13 + 36) ∷ [])
+    ∷ case (reportNumbers (file guardedVariable (ATOMIC 9 ++ TAKE ++ READ ++ WRITE ++ GIVE ++ TAKE ++ READ ++ WRITE ++ GIVE ++ END))) (13 ∷ (13 + 36) ∷ [])
     -- Block TAKE, READ open, GIVE: A
-    ∷ case (reportOf (file openVariable (ATOMIC 4 ++ TAKE ++ READ ++ GIVE ++ END))) (4 ∷ 3 ∷ 4 ∷ 2 ∷ 0 ∷ 4 ∷ [])
+    ∷ case (reportNumbers (file openVariable (ATOMIC 4 ++ TAKE ++ READ ++ GIVE ++ END))) (4 ∷ 3 ∷ 4 ∷ 2 ∷ 0 ∷ 4 ∷ [])
     -- Block READ open, TAKE, GIVE: 13, at the END
-    ∷ case (reportOf (file openVariable (ATOMIC 4 ++ READ ++ TAKE ++ GIVE ++ END))) (13 ∷ (13 + 16) ∷ [])
+    ∷ case (reportNumbers (file openVariable (ATOMIC 4 ++ READ ++ TAKE ++ GIVE ++ END))) (13 ∷ (13 + 16) ∷ [])
     -- Two threads TAKE k0, GIVE k0, list 0 1 0 1: moved 3, waiting 1, idle 0; places 2 and 1; k0 holds 2
-    ∷ case (ranOf twoThreads (0 ∷ 1 ∷ 0 ∷ 1 ∷ [])) (3 ∷ 1 ∷ 0 ∷ 2 ∷ 1 ∷ 2 ∷ [])
+    ∷ case (runNumbers twoThreads (0 ∷ 1 ∷ 0 ∷ 1 ∷ [])) (3 ∷ 1 ∷ 0 ∷ 2 ∷ 1 ∷ 2 ∷ [])
     ∷ []

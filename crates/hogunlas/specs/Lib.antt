@@ -1,10 +1,9 @@
 -- The public calls (document 01); what a reader must believe.
---     Calls   what each call answers, and what its buffer then holds
---     Numbers the answers as C gets them
---     Cases   document 01's starred cases
--- and, for functions inside the crate:
---     Opened  what is known of an accepted file
+--     Calls     what each call answers, and what its buffer then holds
+--     Numbers   the answers as C gets them
+--     Cases     document 01's starred cases
+-- Internal holds what only proofs and inner functions use.
 pub mod Calls
 pub mod Cases
 pub mod Numbers
-pub mod Opened
+pub mod Internal

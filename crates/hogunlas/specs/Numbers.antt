@@ -16,7 +16,7 @@ judgedNumbers (judged.Report n) = record { refusal = 0; detail = 0; length = n }
 judgedNumbers (judged.Refused r) = record { refusal = numberOf r; detail = detailOf r; length = 0 }
 
 abbrev pub ranNumbers : Ran → RanNumbers
-ranNumbers (ran.Counts moved waiting idle) = record { refusal = 0; detail = 0; moved = moved; waiting = waiting; idle = idle }
+ranNumbers (ran.Counted moved waiting idle) = record { refusal = 0; detail = 0; moved = moved; waiting = waiting; idle = idle }
 ranNumbers (ran.Refused r) = record { refusal = numberOf r; detail = detailOf r; moved = 0; waiting = 0; idle = 0 }
 
 abbrev pub printedNumbers : Printed → PrintedNumbers

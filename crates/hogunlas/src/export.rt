@@ -57,7 +57,7 @@ pub extern "C" fn hogunlas_run(file: &[u8], list: &[u8], state: &mut [u8]) -> Ra
 {
     let ran = run(file, list, state);
     match ran {
-        Ran::Counts(moved, waiting, idle) => RanNumbers {
+        Ran::Counted(moved, waiting, idle) => RanNumbers {
             refusal: 0,
             detail: 0,
             moved: moved as u64,

@@ -11,11 +11,16 @@ use printout::print::line_count;
 use printout::print::write_line;
 use program::found::Found;
 use program::layout::Layout;
+use program::limits::LINE_SIZE;
+use program::limits::LIST_LIMIT;
+use program::limits::REPORT_LIMIT;
+use program::limits::THREAD_SIZE;
+use program::limits::WORD_SIZE;
 use program::refusal::Refusal;
 ghost use mathlib.Core.Path.{_≡_};
 ghost use lib.ListN.{length};
 ghost use Rattle.soundness.specs.Demand.{Demand3};
-ghost use Rattle.hogunlas.specs.Opened.{OpenedFile};
+ghost use Rattle.hogunlas.specs.Internal.Opened.{OpenedFile};
 ghost use Rattle.hogunlas.specs.Calls.{judgeAnswer, judgeBuffer, judgedOf, lineAnswer, lineBuffer, printedOf, ranOf, runAnswer, runBuffer};
 
 // What judge answers: the report's length, or the refusal.
@@ -26,7 +31,7 @@ pub enum Judged {
 
 // What run answers: the counts moved, waiting and idle, or the refusal.
 pub enum Ran {
-    Counts(usize, usize, usize),
+    Counted(usize, usize, usize),
     Refused(Refusal),
 }
 
@@ -41,11 +46,11 @@ pub fn judge(file: &[u8], out: &mut [u8]) -> Judged
     ensures result { λ r. ⌜ r ≡ judgedOf (judgeAnswer (now (file .entry)) (length (now (out .entry)))) ⌝ }
     ensures buffer { λ _. ⌜ now (out .exit) ≡ judgeBuffer (now (file .entry)) (now (out .entry)) ⌝ }
 {
-    let mut report = [0u8; 8200];
+    let mut report = [0u8; REPORT_LIMIT];
     let judging = judge_file(file, &mut report);
     match judging {
         Judging::Refused(refusal) => Judged::Refused(refusal),
-        Judging::Accepted(_, n) => {
+        Judging::Done(_, n) => {
             if out.len() < n {
                 return Judged::Refused(Refusal::ShortBuffer(n));
             }
@@ -61,19 +66,19 @@ fn run_accepted(file: &[u8], l: Layout, list: &[u8], out: &mut [u8]) -> Ran
     ensures result { λ r. ⌜ r ≡ ranOf (runAnswer (now (file .entry)) (now (list .entry)) (length (now (out .entry)))) ⌝ }
     ensures buffer { λ _. ⌜ now (out .exit) ≡ runBuffer (now (file .entry)) (now (list .entry)) (now (out .entry)) ⌝ }
 {
-    if 65536 < list.len() {
-        return Ran::Refused(Refusal::LongList(65536));
+    if LIST_LIMIT < list.len() {
+        return Ran::Refused(Refusal::LongList(LIST_LIMIT));
     }
     let found = first_bad_thread(list, l.threads);
     match found {
         Found::At(i) => Ran::Refused(Refusal::ThreadNumber(i)),
         Found::Nowhere => {
-            let size = 4 * l.variables + l.locks + 34 * l.threads;
+            let size = WORD_SIZE * l.variables + l.locks + THREAD_SIZE * l.threads;
             if out.len() < size {
                 return Ran::Refused(Refusal::ShortBuffer(size));
             }
             let counts = run_list(file, l, list, out);
-            Ran::Counts(counts.moved, counts.waiting, counts.idle)
+            Ran::Counted(counts.moved, counts.waiting, counts.idle)
         }
     }
 }
@@ -85,11 +90,11 @@ pub fn run(file: &[u8], list: &[u8], out: &mut [u8]) -> Ran
     ensures buffer { λ _. ⌜ now (out .exit) ≡ runBuffer (now (file .entry)) (now (list .entry)) (now (out .entry)) ⌝ }
     ensures demand { λ _. ⌜ Demand3 (now (file .entry)) ⌝ }
 {
-    let mut report = [0u8; 8200];
+    let mut report = [0u8; REPORT_LIMIT];
     let judging = judge_file(file, &mut report);
     match judging {
         Judging::Refused(refusal) => Ran::Refused(refusal),
-        Judging::Accepted(l, _) => run_accepted(file, l, list, out),
+        Judging::Done(l, _) => run_accepted(file, l, list, out),
     }
 }
 
@@ -98,17 +103,17 @@ pub fn line(file: &[u8], i: usize, out: &mut [u8]) -> Printed
     ensures result { λ r. ⌜ r ≡ printedOf (lineAnswer (now (file .entry)) i (length (now (out .entry)))) ⌝ }
     ensures buffer { λ _. ⌜ now (out .exit) ≡ lineBuffer (now (file .entry)) i (now (out .entry)) ⌝ }
 {
-    let mut report = [0u8; 8200];
+    let mut report = [0u8; REPORT_LIMIT];
     let judging = judge_file(file, &mut report);
     match judging {
         Judging::Refused(refusal) => Printed::Refused(refusal),
-        Judging::Accepted(l, _) => {
+        Judging::Done(l, _) => {
             let count = line_count(l);
             if count <= i {
                 return Printed::Refused(Refusal::LineNumber(count));
             }
-            if out.len() < 48 {
-                return Printed::Refused(Refusal::ShortBuffer(48));
+            if out.len() < LINE_SIZE {
+                return Printed::Refused(Refusal::ShortBuffer(LINE_SIZE));
             }
             Printed::Line(write_line(file, l, &report, i, out))
         }

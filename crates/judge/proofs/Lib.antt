@@ -1,23 +1,25 @@
 -- Laws that belong to no one function.
 --     LockSets        sets of 16 flags: comparing them
 --     VariableKinds   the kind of a variable, found in the file
---     Answers         going on with what was answered
---     Reports         bytes stored one after the other
+--     Verdicts        a test's verdict, as an answer
+--     Reports         the report's bytes stored one after the other
 --     Scanning        the scan over flat code is the rules over structured code
---     ScanThreads     ... over the threads of a program
---     ScanLoop        the loop over a thread's code
---     ThreadLoop      the loop over the threads
+--     ScanCodes       ... over the codes of a program
+--     NestedSections  the code sections of a sound file are well nested
+--     ScanLoop        the loop over one code
+--     CodeLoop        the loop over the codes
 --     Accepting       from the scan to what judging a file answers
 --     Rules, RulesProgram, RulesFile
 --                     judging code, a program and a file is deriving by the rules
 pub mod LockSets
 pub mod VariableKinds
-pub mod Answers
+pub mod Verdicts
 pub mod Reports
 pub mod Scanning
-pub mod ScanThreads
+pub mod ScanCodes
+pub mod NestedSections
 pub mod ScanLoop
-pub mod ThreadLoop
+pub mod CodeLoop
 pub mod Accepting
 pub mod Rules
 pub mod RulesProgram

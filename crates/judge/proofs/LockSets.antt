@@ -7,12 +7,11 @@
 --     same-end                no flag is left
 use Prim.Native.Nat.{ℕ, _+_, _≤_, _<_}
 use mathlib.Core.Path.{_≡_, refl, sym, _∙_, ap}
-use mathlib.Core.Bool.{Bool, true, false}
+use mathlib.Core.Bool.{Bool, true, false, and-eq-true-iff}
 use mathlib.Core.List.{List, [], _∷_, map}
 use lib.ListN.{length, drop, getD, length-map, drop-of-length-le}
 use lib.Seq.{drop-cons, set-out}
 use native.Mathlib.Numerals.{add-one}
-use Rattle.program.proofs.StructureTurn.{and-left, and-right}
 use Rattle.judge.specs.LockSet.{sameFlag, sameFlags, same, withLock, withoutLock}
 use Rattle.judge.specs.declared.lock_set.LockSet.{LockSet}
 
@@ -31,8 +30,9 @@ flags-eq [] [] e = refl
 flags-eq [] (b ∷ m) e = cc
 flags-eq (a ∷ l) [] e = cc
 flags-eq (a ∷ l) (b ∷ m) e =
-    let h : a ≡ b = same-flag-eq a b (and-left (sameFlag a b) (sameFlags l m) e) in
-    let t : l ≡ m = flags-eq l m (and-right (sameFlag a b) (sameFlags l m) e) in
+    let both = and-eq-true-iff (sameFlag a b) (sameFlags l m) .0 e in
+    let h : a ≡ b = same-flag-eq a b (both .0) in
+    let t : l ≡ m = flags-eq l m (both .1) in
     cc
 
 -- sets that compare as equal are equal

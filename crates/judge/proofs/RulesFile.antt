@@ -1,49 +1,34 @@
 -- A file is accepted exactly where it is sound and its program has a derivation, and then the report is the derivation's (document 01,
 -- "Worthless versions": "acceptance exactly when the rules hold").
---     sections-nested, sound-nested     a sound file's code is well nested
+--     sound-codes-nested                a sound file's code is well nested
 --     accept-judged                     an accepted file is a sound one whose program is judged fine
 --     accept-exactly                    an accepted file: its program and its report
 --     accepted-exactly                  a sound file is accepted exactly when a derivation exists
 -- Assumes nothing.
-use Prim.Native.Nat.{ℕ, zero, suc, _+_, _*_}
-use native.Mathlib.Omega.{arith}
+use Prim.Native.Nat.{ℕ}
 use mathlib.Core.Path.{_≡_, refl, subst}
 use mathlib.Core.Logic.{_↔_}
 use mathlib.Core.List.{List}
-use Rattle.program.specs.Choice.{fine}
-use Rattle.program.specs.Layout.{Program, programOf, threadsAt, reading}
-use Rattle.program.specs.Sound.{SoundSections, countAt}
-use Rattle.program.specs.declared.layout.Reading.{Reading}
-use Rattle.program.specs.declared.layout.Reading.the-variants.{Sound, Refused}
+use Rattle.program.specs.Answer.{fine}
+use Rattle.program.specs.Layout.{Program, programOf, reading}
+use Rattle.program.proofs.Answer.{fine-inj, bind-inv, bind-on}
 use Rattle.program.proofs.Sound.{sound-file}
-use Rattle.judge.specs.Acceptance.{Accepted, programRead, sound, accept}
+use Rattle.judge.specs.Acceptance.{Accepted, sound, accept}
 use Rattle.judge.specs.Judging.{judgeProgram}
 use Rattle.judge.specs.Rules.{TypedProgram, programReport, Nested}
-use Rattle.judge.proofs.Answers.{fine-inj}
-use Rattle.judge.proofs.Rules.{bind-inv, bind-on}
+use Rattle.judge.proofs.NestedSections.{sections-nested}
 use Rattle.judge.proofs.RulesProgram.{program-exactly}
 
 -- ---- a sound file
 
--- sound code sections are well nested
-sections-nested : (s : List ℕ) (locks variables n at m : ℕ) → SoundSections s locks variables n at m → Nested (threadsAt locks variables s n at)
-unfolding Nested threadsAt
-sections-nested s locks variables zero at m h = tt
-sections-nested s locks variables (suc n) at m h =
-    (h .1 .nested, sections-nested s locks variables n (at + 2 + 4 * countAt s at) (h .0) (h .3))
-
-read-nested : (s : List ℕ) (x : Reading) → reading s ≡ x → {p : Program} → programRead s x ≡ fine p → Nested (p .threads)
-unfolding programOf
-read-nested s (Sound l) r {p} e =
-    let h = sound-file s l r in
-    subst (λ (p : Program). Nested (p .threads)) (fine-inj (programOf s l) p e)
-    (sections-nested s (l .locks) (l .variables) (l .threads) _ (l .instructions) (h .sections))
-read-nested s (Refused q) r e = absurd (let z : _≡_ {A = ℕ} 0 1 = cc in omega arith)
-
 -- a sound file's code is well nested
-pub sound-nested : (s : List ℕ) {p : Program} → sound s ≡ fine p → Nested (p .threads)
-unfolding sound
-sound-nested s e = read-nested s (reading s) refl e
+pub sound-codes-nested : (s : List ℕ) {p : Program} → sound s ≡ fine p → Nested (p .codes)
+unfolding sound programOf
+sound-codes-nested s {p} e =
+    bind-inv (reading s) _ e λ l reads answer.
+    let h = sound-file s l reads in
+    subst (λ (p : Program). Nested (p .codes)) (fine-inj (programOf s l) p answer)
+    (sections-nested s (l .locks) (l .variables) (l .threads) _ (l .instructions) (h .sections))
 
 -- ---- an accepted file
 
@@ -67,9 +52,9 @@ pub accept-exactly : (s : List ℕ) (a : Accepted)
 accept-exactly s a = (
   (λ e.
       let (e₁, e₂) = accept-judged s a .0 e in
-      let (D, reported) = program-exactly (a .program) (sound-nested s e₁) (a .report) .0 e₂ in
+      let (D, reported) = program-exactly (a .program) (sound-codes-nested s e₁) (a .report) .0 e₂ in
       (e₁, D, reported)),
-  λ h. accept-judged s a .1 (h .0, program-exactly (a .program) (sound-nested s (h .0)) (a .report) .1 (h .1, h .2)),
+  λ h. accept-judged s a .1 (h .0, program-exactly (a .program) (sound-codes-nested s (h .0)) (a .report) .1 (h .1, h .2)),
 )
 
 -- a sound file is accepted exactly when a derivation of its program exists

@@ -1,19 +1,15 @@
 -- Sound and accepted files (document 01, "Who can bring a number about").
 use Prim.Native.Nat.{ℕ}
 use mathlib.Core.List.{List}
-use Rattle.program.specs.Choice.{Answer, fine, refused, _>>=_}
+use Rattle.program.specs.Answer.{Answer, fine, _>>=_}
 use Rattle.program.specs.Layout.{Program, programOf, reading}
-use Rattle.program.specs.declared.layout.Reading.{Reading}
-use Rattle.program.specs.declared.layout.Reading.the-variants.{Sound, Refused}
 use Rattle.judge.specs.Judging.{judgeProgram}
-
-abbrev pub programRead : List ℕ → Reading → Answer Program
-programRead s (Sound l) = fine (programOf s l)
-programRead s (Refused r) = refused r
 
 -- "A file with none of these offences is sound"
 unfoldable pub sound : List ℕ → Answer Program
-sound s = programRead s (reading s)
+sound s = do
+  l ← reading s
+  fine (programOf s l)
 
 -- an accepted file: its program and its report
 pub record Accepted : Type 0 where

@@ -8,16 +8,17 @@ use lib.Dec.{eqb}
 use Rattle.atomicity.specs.Atomicity.{reportByte, composition, join, closure}
 use Rattle.atomicity.specs.declared.Atomicity.{Atomicity}
 use Rattle.atomicity.specs.declared.Atomicity.the-variants.{Both, Top}
-use Rattle.program.specs.Choice.{Answer, fine, _>>=_, _>>_, require}
+use Rattle.program.specs.Answer.{Answer, fine, _>>=_, _>>_, require}
 use Rattle.program.specs.Code.{Code, done, plain, choice, loop, block, size, structured}
 use Rattle.program.specs.Layout.{Program, CodeSection}
+use Rattle.program.specs.Limits.{instructionSize}
 use Rattle.program.specs.declared.refusal.Refusal.the-variants.{SetsDiffer, NotAtomic}
-use Rattle.judge.specs.Discipline.{locksAfter, atomicityOf}
+use Rattle.judge.specs.Discipline.{lockSetAfter, atomicityOf}
 use Rattle.judge.specs.LockSet.{empty, same}
 use Rattle.judge.specs.declared.lock_set.LockSet.{LockSet}
 
 -- what judging code finds: the lock set after it, its atomicity, and its report, a byte for each instruction
-pub record Judged : Type 0 where
+pub record Finding : Type 0 where
   pub locks : LockSet
   pub atomicity : Atomicity
   pub report : List ℕ
@@ -26,63 +27,56 @@ pub record Judged : Type 0 where
 unfoldable pub isTop : Atomicity → Bool
 isTop a = eqb (reportByte a) (reportByte Top)
 
--- code of thread t whose first instruction has file offset d, begun with the lock set s. "A sequence composes its parts; an empty one
+-- the offset of the closer behind part a, whose opener has offset d
+abbrev pub closerAt : (d : ℕ) → Code → ℕ
+closerAt d a = d + instructionSize + instructionSize * size a
+
+-- a construct of atomicity a composed with what follows it: its byte, the bytes inside it, and those that follow
+abbrev pub followed : Atomicity → (inside : List ℕ → List ℕ) → Finding → Answer Finding
+followed a inside rest =
+    fine (record { locks = rest .locks; atomicity = composition a (rest .atomicity); report = reportByte a ∷ inside (rest .report) })
+
+-- code c from the instruction at file offset d on, begun with the lock set s. "A sequence composes its parts; an empty one
 -- is B. IF is the join of its two parts. WHILE is the closure of its body. ATOMIC has its body's atomicity". The report has "0 for
 -- ELSE, AGAIN and END; the whole construct's at its opener"
-unfoldable pub judge : Program → (t d : ℕ) → LockSet → Code → Answer Judged
-judge p t d s done = fine (record { locks = s; atomicity = Both; report = [] })
-judge p t d s (plain i c) = do
-  s′ ← locksAfter p t d i s
-  rest ← judge p t (d + 4) s′ c
-  fine (record {
-    locks = rest .locks;
-    atomicity = composition (atomicityOf p t i) (rest .atomicity);
-    report = reportByte (atomicityOf p t i) ∷ rest .report;
-  })
-judge p t d s (choice r a b c) = do
-  first ← judge p t (d + 4) s a
-  second ← judge p t (d + 4 + 4 * size a + 4) s b
-  require (same (first .locks) (second .locks)) (SetsDiffer (d + 4 + 4 * size a + 4 + 4 * size b))
-  rest ← judge p t (d + 4 + 4 * size a + 4 + 4 * size b + 4) (first .locks) c
-  fine (record {
-    locks = rest .locks;
-    atomicity = composition (join (first .atomicity) (second .atomicity)) (rest .atomicity);
-    report = reportByte (join (first .atomicity) (second .atomicity)) ∷ first .report ++ 0 ∷ second .report ++ 0 ∷ rest .report;
-  })
-judge p t d s (loop r a c) = do
-  body ← judge p t (d + 4) s a
-  require (same s (body .locks)) (SetsDiffer (d + 4 + 4 * size a))
-  rest ← judge p t (d + 4 + 4 * size a + 4) s c
-  fine (record {
-    locks = rest .locks;
-    atomicity = composition (closure (body .atomicity)) (rest .atomicity);
-    report = reportByte (closure (body .atomicity)) ∷ body .report ++ 0 ∷ rest .report;
-  })
-judge p t d s (block a c) = do
-  body ← judge p t (d + 4) s a
-  require (not (isTop (body .atomicity))) (NotAtomic (d + 4 + 4 * size a))
-  rest ← judge p t (d + 4 + 4 * size a + 4) (body .locks) c
-  fine (record {
-    locks = rest .locks;
-    atomicity = composition (body .atomicity) (rest .atomicity);
-    report = reportByte (body .atomicity) ∷ body .report ++ 0 ∷ rest .report;
-  })
+unfoldable pub judge : Program → (c d : ℕ) → LockSet → Code → Answer Finding
+judge p c d s done = fine (record { locks = s; atomicity = Both; report = [] })
+judge p c d s (plain i next) = do
+  s′ ← lockSetAfter p c d i s
+  rest ← judge p c (d + instructionSize) s′ next
+  followed (atomicityOf p c s i) (λ more. more) rest
+judge p c d s (choice r a b next) = do
+  first ← judge p c (d + instructionSize) s a
+  second ← judge p c (closerAt d a + instructionSize) s b
+  require (same (first .locks) (second .locks)) (SetsDiffer (closerAt (closerAt d a) b))
+  rest ← judge p c (closerAt (closerAt d a) b + instructionSize) (first .locks) next
+  followed (join (first .atomicity) (second .atomicity)) (λ more. first .report ++ 0 ∷ second .report ++ 0 ∷ more) rest
+judge p c d s (loop r a next) = do
+  body ← judge p c (d + instructionSize) s a
+  require (same s (body .locks)) (SetsDiffer (closerAt d a))
+  rest ← judge p c (closerAt d a + instructionSize) s next
+  followed (closure (body .atomicity)) (λ more. body .report ++ 0 ∷ more) rest
+judge p c d s (block a next) = do
+  body ← judge p c (d + instructionSize) s a
+  require (not (isTop (body .atomicity))) (NotAtomic (closerAt d a))
+  rest ← judge p c (closerAt d a + instructionSize) (body .locks) next
+  followed (body .atomicity) (λ more. body .report ++ 0 ∷ more) rest
 
--- thread t's whole code: its report, "and then a byte for the thread's whole code". "A thread's code must end with none"
-unfoldable pub judgeThread : Program → ℕ → CodeSection → Answer (List ℕ)
-judgeThread p t section = do
-  whole ← judge p t (section .start) empty (structured (section .code))
-  require (same (whole .locks) empty) (SetsDiffer (section .start + 4 * length (section .code)))
+-- code c, whole: its report, "and then a byte for the thread's whole code". "A thread's code must end with none"
+unfoldable pub judgeCode : Program → (c : ℕ) → CodeSection → Answer (List ℕ)
+judgeCode p c section = do
+  whole ← judge p c (section .start) empty (structured (section .code))
+  require (same (whole .locks) empty) (SetsDiffer (section .start + instructionSize * length (section .code)))
   fine (whole .report ++ reportByte (whole .atomicity) ∷ [])
 
--- "threads in order": the threads from t on
-unfoldable pub judgeThreads : Program → ℕ → List CodeSection → Answer (List ℕ)
-judgeThreads p t [] = fine []
-judgeThreads p t (section ∷ sections) = do
-  report ← judgeThread p t section
-  reports ← judgeThreads p (suc t) sections
+-- "threads in order": the codes from c on
+unfoldable pub judgeCodes : Program → (c : ℕ) → List CodeSection → Answer (List ℕ)
+judgeCodes p c [] = fine []
+judgeCodes p c (section ∷ sections) = do
+  report ← judgeCode p c section
+  reports ← judgeCodes p (suc c) sections
   fine (report ++ reports)
 
 -- the report of a sound file's program, or the first offence of its writer
 unfoldable pub judgeProgram : Program → Answer (List ℕ)
-judgeProgram p = judgeThreads p 0 (p .threads)
+judgeProgram p = judgeCodes p 0 (p .codes)

@@ -4,15 +4,10 @@
 --     Judging     the rules over structured code, and the report
 --     Rules       the rules as derivations
 --     Acceptance  sound and accepted files
---     Judgement   what judging a file answers, and what it leaves in the report's buffer
--- and what only the contracts of inner functions use:
---     Turns       what an answer of src/ says
---     Scan        judging as one pass over flat code; proofs/Scanning.antt proves that it agrees with the rules
+-- Internal holds what only proofs and inner functions use.
 pub mod LockSet
 pub mod Discipline
 pub mod Judging
 pub mod Rules
 pub mod Acceptance
-pub mod Judgement
-pub mod Turns
-pub mod Scan
+pub mod Internal

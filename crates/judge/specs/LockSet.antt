@@ -3,11 +3,8 @@ use Prim.Native.Nat.{ℕ}
 use mathlib.Core.Bool.{Bool, true, false, _&&_, not}
 use mathlib.Core.List.{List, [], _∷_}
 use lib.ListN.{getD, set, replicate}
+use Rattle.program.specs.Limits.{lockLimit}
 use Rattle.judge.specs.declared.lock_set.LockSet.{LockSet}
-
--- the lock limit
-abbrev pub lockLimit : ℕ
-lockLimit = 16
 
 -- "Each thread starts with no locks held"
 unfoldable pub empty : LockSet

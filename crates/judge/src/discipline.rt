@@ -4,16 +4,19 @@ use crate::lock_set::LockSet;
 use atomicity::Atomicity;
 use program::instruction::Instruction;
 use program::layout::Layout;
+use program::limits::RECORDS_START;
+use program::limits::VARIABLE_SIZE;
 use program::refusal::Refusal;
 use program::variable::Kind;
 ghost use mathlib.Core.Path.{_≡_};
-ghost use Prim.Native.Nat.{_+_, _*_, _≤_};
+ghost use Prim.Native.Nat.{_≤_};
 ghost use lib.ListN.{length};
 ghost use Rattle.program.specs.Choice.{choose};
 ghost use Rattle.program.specs.Layout.{programOf};
+ghost use Rattle.program.specs.Limits.{recordOffset};
 ghost use Rattle.program.specs.declared.refusal.Refusal.the-variants.{Access};
-ghost use Rattle.judge.specs.Discipline.{kindAt, permits, accessAtomicity, locksAfter, atomicityOf};
-ghost use Rattle.judge.specs.Turns.{judged, moved};
+ghost use Rattle.judge.specs.Discipline.{kindAt, permits, accessAtomicity, lockSetAfter, atomicityOf};
+ghost use Rattle.judge.specs.Internal.Verdicts.{judged, setBehind};
 
 pub enum Verdict {
     Allowed,
@@ -22,23 +25,23 @@ pub enum Verdict {
 
 // The kind of variable v. A number that is no variable of the file has none to look up.
 pub fn kind_of(s: &[u8], l: Layout, v: u8) -> Kind
-    requires { ⌜ 5 + 6 * l .variables ≤ length (now s) ⌝ }
+    requires { ⌜ recordOffset (l .variables) ≤ length (now s) ⌝ }
     ensures { λ r. ⌜ r ≡ kindAt (programOf (now (s .entry)) l) v ⌝ }
 {
     let i = v as usize;
     if i < l.variables {
-        return program::variable::kind_at(s, 5 + 6 * i, l.locks, l.threads);
+        return program::variable::kind_at(s, RECORDS_START + VARIABLE_SIZE * i, l.locks, l.threads);
     }
     Kind::Open
 }
 
-// Whether a thread that holds these locks may read or write a variable of this kind.
-fn permits(kind: Kind, thread: usize, locks: LockSet, writes: bool) -> bool
-    ensures { λ r. ⌜ r ≡ permits kind thread locks writes ⌝ }
+// Whether code that holds these locks may read or write a variable of this kind.
+fn permits(kind: Kind, code: usize, locks: LockSet, writes: bool) -> bool
+    ensures { λ r. ⌜ r ≡ permits kind code locks writes ⌝ }
 {
     match kind {
         Kind::Guarded(g) => locks.holds(g),
-        Kind::Own(g) => (g as usize) == thread,
+        Kind::Own(g) => (g as usize) == code,
         Kind::Fixed => !writes,
         Kind::Open => true,
     }
@@ -57,18 +60,18 @@ fn checked(good: bool, refusal: Refusal) -> Verdict
 fn access(
     s: &[u8],
     l: Layout,
-    thread: usize,
+    code: usize,
     d: usize,
     v: u8,
     locks: LockSet,
     writes: bool,
 ) -> Verdict
-    requires { ⌜ 5 + 6 * l .variables ≤ length (now s) ⌝ }
-    ensures { λ r. ⌜ r ≡ choose (permits (kindAt (programOf (now (s .entry)) l) v) thread locks writes)
+    requires { ⌜ recordOffset (l .variables) ≤ length (now s) ⌝ }
+    ensures { λ r. ⌜ r ≡ choose (permits (kindAt (programOf (now (s .entry)) l) v) code locks writes)
         Verdict.Allowed (Verdict.Refused (Access d)) ⌝ }
 {
     checked(
-        permits(kind_of(s, l, v), thread, locks, writes),
+        permits(kind_of(s, l, v), code, locks, writes),
         Refusal::Access(d),
     )
 }
@@ -77,13 +80,13 @@ fn access(
 pub fn offence(
     s: &[u8],
     l: Layout,
-    thread: usize,
+    code: usize,
     d: usize,
     i: Instruction,
     locks: LockSet,
 ) -> Verdict
-    requires { ⌜ 5 + 6 * l .variables ≤ length (now s) ⌝ }
-    ensures { λ r. ⌜ judged r (moved i locks) ≡ locksAfter (programOf (now (s .entry)) l) thread d i locks ⌝ }
+    requires { ⌜ recordOffset (l .variables) ≤ length (now s) ⌝ }
+    ensures { λ r. ⌜ judged r (setBehind i locks) ≡ lockSetAfter (programOf (now (s .entry)) l) code d i locks ⌝ }
 {
     match i {
         Instruction::Set(_, _) => Verdict::Allowed,
@@ -91,8 +94,8 @@ pub fn offence(
         Instruction::Add(_, _, _) => Verdict::Allowed,
         Instruction::Sub(_, _, _) => Verdict::Allowed,
         Instruction::Less(_, _, _) => Verdict::Allowed,
-        Instruction::Read(_, v) => access(s, l, thread, d, v, locks, false),
-        Instruction::Write(_, v) => access(s, l, thread, d, v, locks, true),
+        Instruction::Read(_, v) => access(s, l, code, d, v, locks, false),
+        Instruction::Write(_, v) => access(s, l, code, d, v, locks, true),
         Instruction::Take(k) => checked(!locks.holds(k), Refusal::Taken(d)),
         Instruction::Give(k) => checked(locks.holds(k), Refusal::NotTaken(d)),
         Instruction::If(_, _) => Verdict::Allowed,
@@ -105,9 +108,9 @@ pub fn offence(
 }
 
 // The atomicity of a read or a write of variable v.
-fn access_atomicity(s: &[u8], l: Layout, thread: usize, v: u8, writes: bool) -> Atomicity
-    requires { ⌜ 5 + 6 * l .variables ≤ length (now s) ⌝ }
-    ensures { λ r. ⌜ r ≡ accessAtomicity (programOf (now (s .entry)) l) thread v writes ⌝ }
+fn access_atomicity(s: &[u8], l: Layout, code: usize, v: u8, writes: bool) -> Atomicity
+    requires { ⌜ recordOffset (l .variables) ≤ length (now s) ⌝ }
+    ensures { λ r. ⌜ r ≡ accessAtomicity (programOf (now (s .entry)) l) code v writes ⌝ }
 {
     let kind = kind_of(s, l, v);
     match kind {
@@ -118,10 +121,10 @@ fn access_atomicity(s: &[u8], l: Layout, thread: usize, v: u8, writes: bool) -> 
     }
 }
 
-// The atomicity of an instruction.
-pub fn atomicity_of(s: &[u8], l: Layout, thread: usize, i: Instruction) -> Atomicity
-    requires { ⌜ 5 + 6 * l .variables ≤ length (now s) ⌝ }
-    ensures { λ r. ⌜ r ≡ atomicityOf (programOf (now (s .entry)) l) thread i ⌝ }
+// The atomicity of an instruction, where these locks are held.
+pub fn atomicity_of(s: &[u8], l: Layout, code: usize, i: Instruction, locks: LockSet) -> Atomicity
+    requires { ⌜ recordOffset (l .variables) ≤ length (now s) ⌝ }
+    ensures { λ r. ⌜ r ≡ atomicityOf (programOf (now (s .entry)) l) code locks i ⌝ }
 {
     match i {
         Instruction::Set(_, _) => Atomicity::Both,
@@ -129,8 +132,8 @@ pub fn atomicity_of(s: &[u8], l: Layout, thread: usize, i: Instruction) -> Atomi
         Instruction::Add(_, _, _) => Atomicity::Both,
         Instruction::Sub(_, _, _) => Atomicity::Both,
         Instruction::Less(_, _, _) => Atomicity::Both,
-        Instruction::Read(_, v) => access_atomicity(s, l, thread, v, false),
-        Instruction::Write(_, v) => access_atomicity(s, l, thread, v, true),
+        Instruction::Read(_, v) => access_atomicity(s, l, code, v, false),
+        Instruction::Write(_, v) => access_atomicity(s, l, code, v, true),
         Instruction::Take(_) => Atomicity::Right,
         Instruction::Give(_) => Atomicity::Left,
         Instruction::If(_, _) => Atomicity::Both,

@@ -1,8 +1,8 @@
-// The constructs that are open where a thread's code is scanned (document 01, "Lock discipline", "Atomicities").
+// The constructs that are open where a code is scanned (document 01, "Lock discipline", "Atomicities").
 use crate::lock_set::LockSet;
 use atomicity::Atomicity;
 ghost use mathlib.Core.Path.{_≡_};
-ghost use Rattle.judge.specs.Scan.{noFrame};
+ghost use Rattle.judge.specs.Internal.Scan.{noFrame};
 
 // Which part of which construct the scan is in.
 pub enum Part {

@@ -2,7 +2,7 @@
 pub mod discipline;
 pub mod frame;
 pub mod judging;
+pub mod location;
 pub mod lock_set;
-pub mod place;
 pub mod scan;
 pub mod turn;

@@ -1,9 +1,10 @@
-// The locks that a thread holds at a place, as its text says (document 01, "Lock discipline").
+// The locks that are held at a place of a code, as its text says (document 01, "Lock discipline").
+use program::limits::LOCK_LIMIT;
 ghost use mathlib.Core.Path.{_≡_};
 ghost use Rattle.judge.specs.LockSet.{empty, holds, same, sameFlag, withLock, withoutLock};
 
 pub struct LockSet {
-    pub held: [bool; 16],
+    pub held: [bool; LOCK_LIMIT],
 }
 
 // Whether two flags are equal.
@@ -15,13 +16,15 @@ fn same_flag(a: bool, b: bool) -> bool
 
 impl LockSet {
     // The lock limit: each lock is below it.
-    pub const LIMIT: usize = 16;
+    pub const LIMIT: usize = LOCK_LIMIT;
 
     // "Each thread starts with no locks held."
     pub fn empty() -> LockSet
         ensures { λ r. ⌜ r ≡ empty ⌝ }
     {
-        LockSet { held: [false; 16] }
+        LockSet {
+            held: [false; LOCK_LIMIT],
+        }
     }
 
     // Whether a lock is in the set. A number past the limit is no lock of any set.

@@ -1,10 +1,10 @@
-// A thread's code judged in one pass (document 01, "Lock discipline", "Atomicities").
+// One code judged in one pass (document 01, "Lock discipline", "Atomicities").
 use crate::discipline::Verdict;
 use crate::discipline::atomicity_of;
 use crate::discipline::offence;
 use crate::frame::no_frame;
+use crate::location::Location;
 use crate::lock_set::LockSet;
-use crate::place::Place;
 use crate::turn::Role;
 use crate::turn::Step;
 use crate::turn::role_of;
@@ -13,16 +13,19 @@ use atomicity::Atomicity;
 use program::instruction::Instruction;
 use program::instruction::valid_instruction_at;
 use program::layout::Layout;
+use program::limits::ENTRY_LIMIT;
 use program::refusal::Refusal;
 ghost use mathlib.Core.Path.{_≡_};
 ghost use mathlib.Core.List.{List};
 ghost use Prim.Native.Nat.{ℕ, _+_, _*_, _≤_};
 ghost use lib.ListN.{length, set};
-ghost use Rattle.program.specs.Choice.{fine};
-ghost use Rattle.program.specs.Layout.{AllValid, programOf, instructionsAt};
-ghost use Rattle.judge.specs.Scan.{carried, reported, scanThread};
-ghost use Rattle.judge.specs.Scan as Scan;
-ghost use Rattle.judge.specs.Turns.{passedTo, moved};
+ghost use Rattle.program.specs.Answer.{fine};
+ghost use Rattle.program.specs.Layout.{programOf, instructionsAt};
+ghost use Rattle.program.specs.Internal.Sound.{AllValid};
+ghost use Rattle.program.specs.Limits.{instructionSize, recordOffset, reportLimit};
+ghost use Rattle.judge.specs.Internal.Scan.{carried, reported, scanCode};
+ghost use Rattle.judge.specs.Internal.Scan as Scan;
+ghost use Rattle.judge.specs.Internal.Verdicts.{passedTo, setBehind};
 ghost use Rattle.judge.specs.declared.lock_set.LockSet.{LockSet};
 ghost use Rattle.judge.specs.declared.frame.Frame.{Frame};
 
@@ -37,7 +40,7 @@ pub enum Passed {
 
 // What an instruction that offends nothing comes to.
 fn passing(i: Instruction, sofar: Atomicity) -> Passed
-    ensures { λ r. ⌜ ((s : LockSet) (frames : List Frame) (report : List ℕ) → passedTo r s frames report ≡ fine (carried (moved i s) sofar frames report)) ⌝ }
+    ensures { λ r. ⌜ ((s : LockSet) (frames : List Frame) (report : List ℕ) → passedTo r s frames report ≡ fine (carried (setBehind i s) sofar frames report)) ⌝ }
 {
     match i {
         Instruction::Set(_, _) => Passed::Stays(sofar),
@@ -71,27 +74,27 @@ fn put(report: &mut [u8], at: usize, byte: u8)
 fn pass(
     s: &[u8],
     l: Layout,
-    here: Place,
+    here: Location,
     i: Instruction,
     locks: LockSet,
     sofar: Atomicity,
     report: &mut [u8],
 ) -> Passed
-    requires { ⌜ 5 + 6 * l .variables ≤ length (now s) ⌝ }
+    requires { ⌜ recordOffset (l .variables) ≤ length (now s) ⌝ }
     ensures { λ r. ⌜ ((frames : List Frame) → passedTo r locks frames (now (report .exit))
-        ≡ Scan.pass (programOf (now (s .entry)) l) (here .thread) (here .d) (here .at) i (carried locks sofar frames (now (report .entry)))) ⌝ }
+        ≡ Scan.pass (programOf (now (s .entry)) l) (here .code) (here .d) (here .at) i (carried locks sofar frames (now (report .entry)))) ⌝ }
 {
-    let verdict = offence(s, l, here.thread, here.d, i, locks);
+    let verdict = offence(s, l, here.code, here.d, i, locks);
     if let Verdict::Refused(refusal) = verdict {
         return Passed::Refused(refusal);
     }
-    let own = atomicity_of(s, l, here.thread, i);
+    let own = atomicity_of(s, l, here.code, i, locks);
     put(report, here.at, own.report_byte());
     passing(i, sofar.then(own))
 }
 
 // The code's end: "A thread's code must end with none".
-fn code_end(here: Place, locks: LockSet, sofar: Atomicity, report: &mut [u8]) -> Verdict
+fn code_end(here: Location, locks: LockSet, sofar: Atomicity, report: &mut [u8]) -> Verdict
     ensures { λ r. ⌜ ((frames : List Frame) → reported r (now (report .exit))
         ≡ Scan.ending (here .d) (here .at) (carried locks sofar frames (now (report .entry)))) ⌝ }
 {
@@ -102,14 +105,14 @@ fn code_end(here: Place, locks: LockSet, sofar: Atomicity, report: &mut [u8]) ->
     Verdict::Refused(Refusal::SetsDiffer(here.d))
 }
 
-// The code of a thread, `count` instructions from a place on. The open frames are elements 1 to `depth` of `frames`, the last innermost.
-pub fn scan_thread(s: &[u8], l: Layout, first: Place, count: usize, report: &mut [u8]) -> Verdict
-    requires { ⌜ (5 + 6 * l .variables ≤ length (now s)) × (first .d + 4 * count ≤ length (now s)) × (first .at + count ≤ 65536)
+// One code, `count` instructions from a location on. The open frames are elements 1 to `depth` of `frames`, the last innermost.
+pub fn scan_code(s: &[u8], l: Layout, first: Location, count: usize, report: &mut [u8]) -> Verdict
+    requires { ⌜ (recordOffset (l .variables) ≤ length (now s)) × (first .d + instructionSize * count ≤ length (now s)) × (first .at + count ≤ reportLimit)
         × AllValid (l .locks) (l .variables) (now s) count (first .d) ⌝ }
-    ensures { λ r. ⌜ reported r (now (report .exit)) ≡ scanThread (programOf (now (s .entry)) l) (first .thread) (first .at) (now (report .entry))
+    ensures { λ r. ⌜ reported r (now (report .exit)) ≡ scanCode (programOf (now (s .entry)) l) (first .code) (first .at) (now (report .entry))
         (record { start = first .d; code = instructionsAt (l .locks) (l .variables) (now (s .entry)) count (first .d) }) ⌝ }
 {
-    let mut frames = [no_frame(); 17];
+    let mut frames = [no_frame(); ENTRY_LIMIT + 1];
     let mut depth = 0;
     let mut locks = LockSet::empty();
     let mut sofar = Atomicity::Both;

@@ -1,19 +1,20 @@
-// An opener or a closer passed by the scan of a thread's code.
+// An opener or a closer passed by the scan of a code.
 use crate::frame::Frame;
 use crate::frame::Part;
 use crate::frame::no_frame;
+use crate::location::Location;
 use crate::lock_set::LockSet;
-use crate::place::Place;
 use atomicity::Atomicity;
 use program::instruction::Form;
 use program::instruction::Instruction;
 use program::instruction::form_of;
+use program::limits::ENTRY_LIMIT;
 use program::refusal::Refusal;
 ghost use mathlib.Core.Path.{_≡_};
 ghost use Prim.Native.Nat.{_<_};
 ghost use Rattle.program.specs.Instruction.{formOf};
 ghost use Rattle.judge.specs.Judging.{isTop};
-ghost use Rattle.judge.specs.Scan as Scan;
+ghost use Rattle.judge.specs.Internal.Scan as Scan;
 
 // An opener says which part it opens. Which part a closer closes, the innermost frame says: reading has seen to that.
 pub enum Mark {
@@ -29,7 +30,7 @@ pub enum Role {
 
 // What an opener or a closer does to the open frames.
 pub enum Step {
-    // The turn's frame is the innermost.
+    // The effect's frame is the innermost.
     Enter,
     // The innermost frame is gone: where its opener's byte stands, and that byte.
     Leave(usize, u8),
@@ -38,7 +39,7 @@ pub enum Step {
 
 // How many frames are open, the lock set, and the atomicity of what was passed of the innermost part are those after it. The frame is
 // read only where it is entered.
-pub struct Turn {
+pub struct Effect {
     pub step: Step,
     pub depth: usize,
     pub locks: LockSet,
@@ -60,12 +61,12 @@ pub fn role_of(i: Instruction) -> Role
     }
 }
 
-fn refusing(refusal: Refusal) -> Turn
+fn refusing(refusal: Refusal) -> Effect
     ensures { λ r. ⌜ r ≡ Scan.refusing refusal ⌝ }
 {
     let locks = LockSet::empty();
     let frame = no_frame();
-    Turn {
+    Effect {
         step: Step::Refuse(refusal),
         depth: 0,
         locks,
@@ -75,10 +76,10 @@ fn refusing(refusal: Refusal) -> Turn
 }
 
 // An opener. "a 17th entry opens": none that reading lets through.
-fn opening(part: Part, here: Place, depth: usize, locks: LockSet, sofar: Atomicity) -> Turn
-    ensures { λ r. ⌜ r ≡ Scan.opening part (here .d) (here .at) depth locks sofar ⌝ }
+fn opening(part: Part, here: Location, depth: usize, locks: LockSet, sofar: Atomicity) -> Effect
+    ensures { λ r. ⌜ r ≡ Scan.openingFrame part (here .d) (here .at) depth locks sofar ⌝ }
 {
-    if 16 <= depth {
+    if ENTRY_LIMIT <= depth {
         return refusing(Refusal::Nesting(here.d));
     }
     let frame = Frame {
@@ -88,7 +89,7 @@ fn opening(part: Part, here: Place, depth: usize, locks: LockSet, sofar: Atomici
         first: Atomicity::Both,
         before: sofar,
     };
-    Turn {
+    Effect {
         step: Step::Enter,
         depth: depth + 1,
         locks,
@@ -98,12 +99,12 @@ fn opening(part: Part, here: Place, depth: usize, locks: LockSet, sofar: Atomici
 }
 
 // A construct of this atomicity ends.
-fn closing(own: Atomicity, depth: usize, locks: LockSet, frame: Frame) -> Turn
+fn closing(own: Atomicity, depth: usize, locks: LockSet, frame: Frame) -> Effect
     requires { ⌜ 0 < depth ⌝ }
     ensures { λ r. ⌜ r ≡ Scan.closing own depth locks frame ⌝ }
 {
     let before = frame.before;
-    Turn {
+    Effect {
         step: Step::Leave(frame.opener, own.report_byte()),
         depth: depth - 1,
         locks,
@@ -113,7 +114,7 @@ fn closing(own: Atomicity, depth: usize, locks: LockSet, frame: Frame) -> Turn
 }
 
 // The ELSE of an IF.
-fn then_end(depth: usize, locks: LockSet, sofar: Atomicity, frame: Frame) -> Turn
+fn then_end(depth: usize, locks: LockSet, sofar: Atomicity, frame: Frame) -> Effect
     ensures { λ r. ⌜ r ≡ Scan.thenEnd depth locks sofar frame ⌝ }
 {
     let at_if = frame.locks;
@@ -125,7 +126,7 @@ fn then_end(depth: usize, locks: LockSet, sofar: Atomicity, frame: Frame) -> Tur
         first: sofar,
         before,
     };
-    Turn {
+    Effect {
         step: Step::Enter,
         depth,
         locks: at_if,
@@ -135,7 +136,7 @@ fn then_end(depth: usize, locks: LockSet, sofar: Atomicity, frame: Frame) -> Tur
 }
 
 // The END of an IF.
-fn else_end(d: usize, depth: usize, locks: LockSet, sofar: Atomicity, frame: Frame) -> Turn
+fn else_end(d: usize, depth: usize, locks: LockSet, sofar: Atomicity, frame: Frame) -> Effect
     requires { ⌜ 0 < depth ⌝ }
     ensures { λ r. ⌜ r ≡ Scan.elseEnd d depth locks sofar frame ⌝ }
 {
@@ -148,7 +149,7 @@ fn else_end(d: usize, depth: usize, locks: LockSet, sofar: Atomicity, frame: Fra
 }
 
 // The AGAIN of a WHILE.
-fn body_end(d: usize, depth: usize, locks: LockSet, sofar: Atomicity, frame: Frame) -> Turn
+fn body_end(d: usize, depth: usize, locks: LockSet, sofar: Atomicity, frame: Frame) -> Effect
     requires { ⌜ 0 < depth ⌝ }
     ensures { λ r. ⌜ r ≡ Scan.bodyEnd d depth locks sofar frame ⌝ }
 {
@@ -167,7 +168,7 @@ fn is_top(a: Atomicity) -> bool
 }
 
 // The END of an ATOMIC.
-fn block_end(d: usize, depth: usize, locks: LockSet, sofar: Atomicity, frame: Frame) -> Turn
+fn block_end(d: usize, depth: usize, locks: LockSet, sofar: Atomicity, frame: Frame) -> Effect
     requires { ⌜ 0 < depth ⌝ }
     ensures { λ r. ⌜ r ≡ Scan.blockEnd d depth locks sofar frame ⌝ }
 {
@@ -178,7 +179,7 @@ fn block_end(d: usize, depth: usize, locks: LockSet, sofar: Atomicity, frame: Fr
 }
 
 // A closer. One with no open frame is none that reading lets through.
-fn part_end(d: usize, depth: usize, locks: LockSet, sofar: Atomicity, frame: Frame) -> Turn
+fn part_end(d: usize, depth: usize, locks: LockSet, sofar: Atomicity, frame: Frame) -> Effect
     ensures { λ r. ⌜ r ≡ Scan.partEnd d depth locks sofar frame ⌝ }
 {
     if depth == 0 {
@@ -196,13 +197,13 @@ fn part_end(d: usize, depth: usize, locks: LockSet, sofar: Atomicity, frame: Fra
 // An opener or a closer, where `depth` frames are open, this one innermost.
 pub fn take_turn(
     mark: Mark,
-    here: Place,
+    here: Location,
     depth: usize,
     locks: LockSet,
     sofar: Atomicity,
     frame: Frame,
-) -> Turn
-    ensures { λ r. ⌜ r ≡ Scan.turn mark (here .d) (here .at) depth locks sofar frame ⌝ }
+) -> Effect
+    ensures { λ r. ⌜ r ≡ Scan.effectOf mark (here .d) (here .at) depth locks sofar frame ⌝ }
 {
     match mark {
         Mark::Opens(part) => opening(part, here, depth, locks, sofar),

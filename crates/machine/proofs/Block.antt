@@ -1,21 +1,23 @@
 -- Where a thread stands inside a block (document 01, "Mistakes that look reasonable": "counting a thread at its ATOMIC as inside;
 -- treating the END of a block as already outside"), computed by the definitions. Assumes nothing.
+--     inside-places   whether it is inside, at each place of a code with a block in a block and a loop
 use Prim.Native.Nat.{ℕ}
 use mathlib.Core.Path.{_≡_, refl}
 use mathlib.Core.Bool.{true, false}
 use mathlib.Core.List.{[], _∷_, map}
 use Rattle.program.specs.Instruction.{formOf}
-use Rattle.program.specs.Layout.{Program}
+use Rattle.program.specs.Layout.{Program, codeOf}
 use Rattle.program.specs.declared.instruction.Instruction.the-variants.{While, Again, Atomic, End}
 use Rattle.machine.specs.Block.{covers, coveredFrom, inside}
-use Rattle.machine.specs.State.{State, codeOf, threadOf}
+use Rattle.machine.specs.State.{State, threadOf}
 
 -- one thread's code: a block at places 0 to 3 with another in it, at 1 and 2; then a loop, which is none
 abbrev blocks : Program
 blocks = record {
   locks = 0;
   variables = [];
-  threads = record { start = 0; code = Atomic 3 ∷ Atomic 1 ∷ End ∷ End ∷ While 0 1 ∷ Again 1 ∷ [] } ∷ [];
+  threads = 1;
+  codes = record { start = 0; code = Atomic 3 ∷ Atomic 1 ∷ End ∷ End ∷ While 0 1 ∷ Again 1 ∷ [] } ∷ [];
 }
 
 -- the thread at a place

@@ -1,37 +1,42 @@
 -- The state in arrays, through one entry. Assumes nothing.
---     kept-start                 what holds of the arrays between two entries, at the start
---     fields, place-below        of the thread that an entry names, where it is not at its code's end
---     entry-idle, entry-waiting, entry-moved   the entry, from what the code finds
---     kept-waiting, kept-moved   what it leaves is kept
+--     kept-start             what holds of the arrays between two entries, at the start
+--     length-variables-after, length-locks-after, length-registers-after
+--                            an access and an instruction keep the lists' lengths
+--     place-below            a thread that is not at its code's end stands at an instruction
+--     fields-below-limits    that instruction's fields name registers, locks and variables that the arrays have
+--     entry-idle, entry-waiting, entry-moved
+--                            the entry, from what the code finds
+--     kept-waiting, kept-moved
+--                            what it leaves is kept
 use Prim.Native.Nat.{ℕ, suc, _+_, _*_, _≤_, _<_}
 use mathlib.Core.Path.{_≡_, refl, sym, ap, _∙_, subst}
 use mathlib.Core.Bool.{Bool, true, false}
-use mathlib.Core.List.{List, [], _∷_}
-use native.Mathlib.Nat.{lt-of-lt-of-le}
-use native.Mathlib.Decide.{ℕ-discrete}
+use mathlib.Core.List.{List, _∷_}
 use native.Mathlib.Omega.{arith}
 use lib.ListN.{length, getD, set, take, replicate, length-set, getD-replicate}
-use lib.Seq.{getD-take, take-set-lt, getD-set-same, getD-set-other}
+use lib.Seq.{getD-take, take-set-lt}
 use Rattle.program.specs.Choice.{choose}
-use Rattle.program.specs.Instruction.{decodeAt}
-use Rattle.program.specs.Instruction as program
-use Rattle.program.specs.Layout.{programOf}
-use Rattle.program.specs.Sound.{FieldsGood}
+use Rattle.program.specs.Instruction.{decodeAt, decodedInstruction}
+use Rattle.program.specs.Layout.{programOf, codeOf}
+use Rattle.program.specs.Internal.Sound.{FieldsGood}
 use Rattle.program.specs.declared.layout.Layout.{Layout}
 use Rattle.program.specs.declared.instruction.Instruction.{Instruction}
 use Rattle.program.specs.declared.instruction.Instruction.the-variants.{Set, Copy, Add, Sub, Less, Read, Write, Take, Give, If, Else, While, Again, Atomic, End}
+use Rattle.program.proofs.Differ.{differ}
+use Rattle.program.proofs.Lists.{getD-first, getD-set-holds}
 use Rattle.program.proofs.Contents.{length-instructions, getD-instructions}
 use Rattle.program.proofs.Decode.{instruction-fields}
-use Rattle.machine.specs.State.{fresh, codeOf, threadOf}
+use Rattle.machine.specs.State.{fresh, threadOf}
 use Rattle.program.specs.Access.{Access, none, reads, writes, takes, gives, accessOf}
+use Rattle.program.specs.Limits.{lockLimit, threadLimit, variableLimit, registerCount}
 use Rattle.machine.specs.Step.{waits, valueRead, variablesAfter, locksAfter, placeAfter, registersAfter, threadAfter, instructionOf, moveBy}
 use Rattle.machine.specs.Run.{runFrom}
-use Rattle.machine.specs.Kept.{stateIn, Prepared, nobody, EightRegisters, Kept}
-use Rattle.machine.specs.Reached.{shared, locksLeft}
+use Rattle.machine.specs.Internal.Kept.{stateIn, Prepared, nobody, EightRegisters, Kept}
+use Rattle.machine.specs.Internal.Reached.{shared, locksLeft}
 use Rattle.machine.specs.declared.entry.Shared.the-variants.{Waits, Made}
 use Rattle.machine.specs.declared.thread.Thread.{Thread}
-use Rattle.machine.proofs.Outcome.{run-idle, run-waiting, run-moved}
-use Rattle.machine.proofs.Fields.{AccessBelow, access-below, wider, place-inside}
+use Rattle.machine.proofs.Outcome.{runFrom-idle, runFrom-waiting, runFrom-moved}
+use Rattle.machine.proofs.Fields.{AccessBelow, access-below, fields-wider, place-inside}
 
 -- a thread that has not moved is at place 0
 place-fresh : (n t : ℕ) → getD (replicate n fresh) t nobody .place ≡ 0
@@ -40,25 +45,16 @@ place-fresh ℕ.zero t = refl
 place-fresh (suc n) ℕ.zero = refl
 place-fresh (suc n) (suc t) = place-fresh n t
 
-registers-fresh : (n t : ℕ) → t < n → length (getD (replicate n fresh) t nobody .registers) ≡ 8
+registers-fresh : (n t : ℕ) → t < n → length (getD (replicate n fresh) t nobody .registers) ≡ registerCount
 unfolding fresh
 registers-fresh n t h = rw (getD-replicate n t fresh nobody h)
 
 -- so it is at the start
-pub kept-start : (l : Layout) (sizes vs ks : List ℕ) → length vs ≡ 64 → length ks ≡ 16 → Kept l sizes vs ks (replicate 8 fresh)
+pub kept-start : (l : Layout) (sizes vs ks : List ℕ) → length vs ≡ variableLimit → length ks ≡ lockLimit → Kept l sizes vs ks (replicate threadLimit fresh)
 unfolding EightRegisters
-kept-start l sizes vs ks e f = record { variables = e; locks = f; threads = refl; places = λ t h. omega (arith, place-fresh 8 t); registers = registers-fresh 8 }
+kept-start l sizes vs ks e f = record { variables = e; locks = f; threads = refl; places = λ t h. omega (arith, place-fresh threadLimit t); registers = registers-fresh threadLimit }
 
 -- ---- the first elements count
-
--- an element of the first n, whatever stands for none
-getD-first : {A : Type 0} (n : ℕ) (xs : List A) (i : ℕ) (d e : A) → i < n → n ≤ length xs → getD (take n xs) i d ≡ getD xs i e
-getD-first n xs i d e h k = getD-take n xs i d h ∙ getD-any xs i d e (lt-of-lt-of-le h k)
-  where
-    getD-any : {A : Type 0} (xs : List A) (i : ℕ) (d e : A) → i < length xs → getD xs i d ≡ getD xs i e
-    getD-any [] i d e h = absurd (omega arith)
-    getD-any (x ∷ xs) ℕ.zero d e h = refl
-    getD-any (x ∷ xs) (suc i) d e h = getD-any xs i d e (omega arith)
 
 module _ (k v : ℕ) where
   waits-first : (a : Access) (ks : List ℕ) → AccessBelow k v a → waits a (take k ks) ≡ waits a ks
@@ -99,27 +95,27 @@ module _ (a : Access) (ks vs : List ℕ) where
   -- it waited
   shared-waits : shared a ks vs ≡ Waits → waits a ks ≡ true
   unfolding shared
-  shared-waits e = from (waits a ks) e
+  shared-waits e = choose-waits (waits a ks) e
     where
-      from : (b : Bool) → choose b Waits (Made (valueRead a vs)) ≡ Waits → b ≡ true
-      from true e = refl
-      from false e = absurd (let z : _≡_ {A = ℕ} 0 1 = cc in let y : ⊥ = omega arith in y)
+      choose-waits : (b : Bool) → choose b Waits (Made (valueRead a vs)) ≡ Waits → b ≡ true
+      choose-waits true e = refl
+      choose-waits false e = differ cc
 
   -- it was made
   shared-made : (x : ℕ) → shared a ks vs ≡ Made x → (waits a ks ≡ false) × (valueRead a vs ≡ x)
   unfolding shared
-  shared-made x e = from (waits a ks) e
+  shared-made x e = choose-made (waits a ks) e
     where
-      from : (b : Bool) → choose b Waits (Made (valueRead a vs)) ≡ Made x → (b ≡ false) × (valueRead a vs ≡ x)
-      from true e = absurd (let z : _≡_ {A = ℕ} 0 1 = cc in let y : ⊥ = omega arith in y)
-      from false e = (refl, cc)
+      choose-made : (b : Bool) → choose b Waits (Made (valueRead a vs)) ≡ Made x → (b ≡ false) × (valueRead a vs ≡ x)
+      choose-made true e = differ cc
+      choose-made false e = (refl, cc)
 
 -- only a TAKE waits, and it leaves the variables alone
 variables-waiting : (a : Access) (r ks vs : List ℕ) → waits a ks ≡ true → variablesAfter a r vs ≡ vs
 unfolding waits variablesAfter
 variables-waiting none r ks vs e = refl
 variables-waiting (reads x) r ks vs e = refl
-variables-waiting (writes x a) r ks vs e = absurd (let z : _≡_ {A = ℕ} 0 1 = cc in let y : ⊥ = omega arith in y)
+variables-waiting (writes x a) r ks vs e = differ cc
 variables-waiting (takes x) r ks vs e = refl
 variables-waiting (gives x) r ks vs e = refl
 
@@ -181,36 +177,36 @@ module _ (s : List ℕ) (l : Layout) (starts sizes : List ℕ) (prepared : Prepa
   place-below n = omega (arith, kept .places t h)
 
   -- the instruction there
-  fetched : (getD ths t nobody .place ≡ getD sizes t 0 → ⊥)
+  instruction-decoded : (getD ths t nobody .place ≡ getD sizes t 0 → ⊥)
       → instructionOf (programOf s l) t (stateIn l vs ks ths)
-      ≡ program.instructionOf (decodeAt (l .locks) (l .variables) s (getD starts t 0 + 4 * getD ths t nobody .place))
+      ≡ decodedInstruction (decodeAt (l .locks) (l .variables) s (getD starts t 0 + 4 * getD ths t nobody .place))
   unfolding instructionOf
-  fetched n =
+  instruction-decoded n =
       rw (thread-first, prepared .sections t h .code)
       (getD-instructions (l .locks) (l .variables) s (getD sizes t 0) (getD starts t 0) (getD ths t nobody .place) (place-below n))
 
   pub entry-idle : (m w d : ℕ) (ts : List ℕ) → getD ths t nobody .place ≡ getD sizes t 0
       → runFrom (programOf s l) (record { counts = record { moved = m; waiting = w; idle = d }; state = stateIn l vs ks ths }) (t ∷ ts)
       ≡ runFrom (programOf s l) (record { counts = record { moved = m; waiting = w; idle = d + 1 }; state = stateIn l vs ks ths }) ts
-  entry-idle m w d ts e = run-idle (programOf s l) t _ ts (at-end e)
+  entry-idle m w d ts e = runFrom-idle (programOf s l) t _ ts (at-end e)
 
   -- the instruction is not at its code's end, and is the one read from the file
   module _ (i : Instruction)
       (n : getD ths t nobody .place ≡ getD sizes t 0 → ⊥)
-      (read : i ≡ program.instructionOf (decodeAt (l .locks) (l .variables) s (getD starts t 0 + 4 * getD ths t nobody .place))) where
-    here : instructionOf (programOf s l) t (stateIn l vs ks ths) ≡ i
-    here = fetched n ∙ sym read
+      (read : i ≡ decodedInstruction (decodeAt (l .locks) (l .variables) s (getD starts t 0 + 4 * getD ths t nobody .place))) where
+    instruction-is : instructionOf (programOf s l) t (stateIn l vs ks ths) ≡ i
+    instruction-is = instruction-decoded n ∙ sym read
 
-    good : FieldsGood (l .locks) (l .variables) i
-    good = subst (FieldsGood (l .locks) (l .variables)) (sym read)
+    fields-below-counts : FieldsGood (l .locks) (l .variables) i
+    fields-below-counts = subst (FieldsGood (l .locks) (l .variables)) (sym read)
         (instruction-fields (l .locks) (l .variables) s (getD starts t 0 + 4 * getD ths t nobody .place))
 
     -- what the functions that take the instruction ask
-    pub fields : FieldsGood 16 64 i
-    fields = wider (l .locks) (l .variables) 16 64 (prepared .locks) (prepared .variables) i good
+    pub fields-below-limits : FieldsGood lockLimit variableLimit i
+    fields-below-limits = fields-wider (l .locks) (l .variables) lockLimit variableLimit (prepared .locks) (prepared .variables) i fields-below-counts
 
-    reached : AccessBelow (l .locks) (l .variables) (accessOf i)
-    reached = access-below (l .locks) (l .variables) i good
+    access-below-counts : AccessBelow (l .locks) (l .variables) (accessOf i)
+    access-below-counts = access-below (l .locks) (l .variables) i fields-below-counts
 
     pub entry-waiting : (m w d : ℕ) (ts r : List ℕ) → shared (accessOf i) ks vs ≡ Waits
         → runFrom (programOf s l) (record { counts = record { moved = m; waiting = w; idle = d }; state = stateIn l vs ks ths }) (t ∷ ts)
@@ -222,8 +218,8 @@ module _ (s : List ℕ) (l : Layout) (starts sizes : List ℕ) (prepared : Prepa
     entry-waiting m w d ts r e =
         let f = shared-waits (accessOf i) ks vs e in
         rw (variables-waiting (accessOf i) r ks vs f, f)
-        (run-waiting (programOf s l) t _ ts (not-at-end n)
-        (rw here (waits-first (l .locks) (l .variables) (accessOf i) ks reached ∙ f)))
+        (runFrom-waiting (programOf s l) t _ ts (not-at-end n)
+        (rw instruction-is (waits-first (l .locks) (l .variables) (accessOf i) ks access-below-counts ∙ f)))
 
     pub kept-waiting : (r : List ℕ) → shared (accessOf i) ks vs ≡ Waits → Kept l sizes (variablesAfter (accessOf i) r vs) (locksLeft (accessOf i) t ks) ths
     unfolding locksLeft
@@ -241,41 +237,38 @@ module _ (s : List ℕ) (l : Layout) (starts sizes : List ℕ) (prepared : Prepa
     unfolding locksLeft moveBy
     entry-moved m w d ts x e =
         let f = shared-made (accessOf i) ks vs x e in
-        run-moved (programOf s l) t _ ts (not-at-end n)
-        (rw here (waits-first (l .locks) (l .variables) (accessOf i) ks reached ∙ f .0))
+        runFrom-moved (programOf s l) t _ ts (not-at-end n)
+        (rw instruction-is (waits-first (l .locks) (l .variables) (accessOf i) ks access-below-counts ∙ f .0))
         ∙ rw (
-          here,
+          instruction-is,
           thread-first,
           f .0,
-          value-first (l .locks) (l .variables) (accessOf i) vs reached,
+          value-first (l .locks) (l .variables) (accessOf i) vs access-below-counts,
           f .1,
-          variables-first (l .locks) (l .variables) (accessOf i) (getD ths t nobody .registers) vs reached,
-          locks-first (l .locks) (l .variables) (accessOf i) t ks reached,
+          variables-first (l .locks) (l .variables) (accessOf i) (getD ths t nobody .registers) vs access-below-counts,
+          locks-first (l .locks) (l .variables) (accessOf i) t ks access-below-counts,
           take-set-lt (l .threads) ths t (threadAfter i x (getD ths t nobody)) h,
         )
 
     -- it goes to a place of its code, or to the code's end
-    goes : (r : List ℕ) → placeAfter i r (getD ths t nobody .place) ≤ getD sizes t 0
+    place-after-in-code : (r : List ℕ) → placeAfter i r (getD ths t nobody .place) ≤ getD sizes t 0
     unfolding instructionOf
-    goes r =
-        let e : getD (codeOf (programOf s l) t) (getD ths t nobody .place) End ≡ i = rw thread-first at here in
+    place-after-in-code r =
+        let e : getD (codeOf (programOf s l) t) (getD ths t nobody .place) End ≡ i = rw thread-first at instruction-is in
         rw (e, code-size) at
         (place-inside (codeOf (programOf s l) t) (prepared .sections t h .nested) r (getD ths t nobody .place) (rw code-size (place-below n)))
 
     places-after : (x u : ℕ) → u < l .threads → getD (set ths t (threadAfter i x (getD ths t nobody))) u nobody .place ≤ getD sizes u 0
     unfolding threadAfter
-    places-after x u k = elim (ℕ-discrete u t) [
-      | yes e ↦ rw (e, getD-set-same ths t (threadAfter i x (getD ths t nobody)) nobody (omega (arith, prepared .threads, kept .threads))) (goes (getD ths t nobody .registers))
-      | no e ↦ rw (getD-set-other ths t u (threadAfter i x (getD ths t nobody)) nobody e) (kept .places u k)
-    ]
+    places-after x u k =
+        getD-set-holds (λ v (th : Thread). th .place ≤ getD sizes v 0) ths t (threadAfter i x (getD ths t nobody)) nobody
+        (place-after-in-code (getD ths t nobody .registers)) u (kept .places u k)
 
     registers-after : (x : ℕ) → EightRegisters (set ths t (threadAfter i x (getD ths t nobody)))
     unfolding threadAfter EightRegisters
-    registers-after x u k = elim (ℕ-discrete u t) [
-      | yes e ↦ rw (e, getD-set-same ths t (threadAfter i x (getD ths t nobody)) nobody (omega (arith, prepared .threads, kept .threads)))
-          (length-registers-after i x (getD ths t nobody .registers) ∙ kept .registers t (omega (arith, prepared .threads)))
-      | no e ↦ rw (getD-set-other ths t u (threadAfter i x (getD ths t nobody)) nobody e) (kept .registers u k)
-    ]
+    registers-after x u k =
+        getD-set-holds (λ _ (th : Thread). length (th .registers) ≡ 8) ths t (threadAfter i x (getD ths t nobody)) nobody
+        (length-registers-after i x (getD ths t nobody .registers) ∙ kept .registers t (omega (arith, prepared .threads))) u (kept .registers u k)
 
     pub kept-moved : (x : ℕ) → shared (accessOf i) ks vs ≡ Made x
         → Kept l sizes (variablesAfter (accessOf i) (getD ths t nobody .registers) vs) (locksLeft (accessOf i) t ks)

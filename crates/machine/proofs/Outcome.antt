@@ -1,8 +1,8 @@
 -- One entry of a list, from the tests that decide it. Assumes nothing.
---     run-idle      at the code's end
---     run-waiting   at a lock that is not free
---     run-moved     otherwise
---     run-sum       "their sum is the list's length"
+--     runFrom-idle      at the code's end
+--     runFrom-waiting   at a lock that is not free
+--     runFrom-moved     otherwise
+--     run-sum           "their sum is the list's length"
 use Prim.Native.Nat.{ℕ, _+_}
 use mathlib.Core.Path.{_≡_, _∙_}
 use mathlib.Core.Bool.{true, false}
@@ -10,32 +10,33 @@ use mathlib.Core.List.{List, [], _∷_}
 use native.Mathlib.Omega.{arith}
 use lib.ListN.{length}
 use borrow.Author.Tests.{eq-eqb, ne-eqb}
-use Rattle.program.specs.Layout.{Program}
-use Rattle.machine.specs.State.{codeOf, threadOf}
+use Rattle.program.specs.Layout.{Program, codeOf}
+use Rattle.machine.specs.State.{threadOf}
 use Rattle.program.specs.Access.{accessOf}
 use Rattle.machine.specs.Step.{waits, instructionOf, moveBy, outcome, step}
-use Rattle.machine.specs.Run.{Run, Counts, counted, runFrom, run}
+use Rattle.machine.specs.Run.{Run, counted, runFrom, run}
+use Rattle.machine.specs.declared.run.Counts.{Counts}
 use Rattle.machine.specs.declared.thread.Outcome.{Outcome}
 use Rattle.machine.specs.declared.thread.Outcome.the-variants.{Moved, Waiting, Idle}
 
 module _ (p : Program) (t : ℕ) (r : Run) (ts : List ℕ) where
-  pub run-idle : threadOf (r .state) t .place ≡ length (codeOf p t)
+  pub runFrom-idle : threadOf (r .state) t .place ≡ length (codeOf p t)
       → runFrom p r (t ∷ ts) ≡ runFrom p (record { counts = counted Idle (r .counts); state = r .state }) ts
   unfolding runFrom step outcome
-  run-idle e = rw (eq-eqb _ _ e)
+  runFrom-idle e = rw (eq-eqb _ _ e)
 
-  pub run-waiting : (threadOf (r .state) t .place ≡ length (codeOf p t) → ⊥)
+  pub runFrom-waiting : (threadOf (r .state) t .place ≡ length (codeOf p t) → ⊥)
       → waits (accessOf (instructionOf p t (r .state))) (r .state .locks) ≡ true
       → runFrom p r (t ∷ ts) ≡ runFrom p (record { counts = counted Waiting (r .counts); state = r .state }) ts
   unfolding runFrom step outcome
-  run-waiting e w = rw (ne-eqb _ _ e, w)
+  runFrom-waiting e w = rw (ne-eqb _ _ e, w)
 
-  pub run-moved : (threadOf (r .state) t .place ≡ length (codeOf p t) → ⊥)
+  pub runFrom-moved : (threadOf (r .state) t .place ≡ length (codeOf p t) → ⊥)
       → waits (accessOf (instructionOf p t (r .state))) (r .state .locks) ≡ false
       → runFrom p r (t ∷ ts)
       ≡ runFrom p (record { counts = counted Moved (r .counts); state = moveBy (instructionOf p t (r .state)) t (r .state) }) ts
   unfolding runFrom step outcome
-  run-moved e w = rw (ne-eqb _ _ e, w)
+  runFrom-moved e w = rw (ne-eqb _ _ e, w)
 
 -- every entry is counted once
 total : Counts → ℕ

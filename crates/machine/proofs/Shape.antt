@@ -1,24 +1,26 @@
 -- The shape of a state: its lists are as long as the program says, and each thread has eight registers. It is the start's, and a run keeps
 -- it, so that the state's bytes are as many as document 01 says ("That makes 4 bytes a variable, 1 a lock and 34 a thread").
 -- Assumes nothing.
---     Shape          the shape
---     shape-start    the start has it
---     shape-step     one entry keeps it
---     shape-run      a run keeps it
---     length-state   how many bytes such a state has
---     length-end     how many bytes the end state has
+--     Shape             the shape
+--     shape-start       the start has it
+--     shape-step        one entry keeps it
+--     shape-run         a run keeps it
+--     length-state      how many bytes such a state has
+--     length-end        how many bytes the end state has
 --     length-end-file   the same by a file's counts
-use Prim.Native.Nat.{ℕ, zero, suc, _+_, _*_}
+use Prim.Native.Nat.{ℕ}
 use mathlib.Core.Path.{_≡_, ap, _∙_}
 use mathlib.Core.List.{List, [], _∷_}
-use lib.ListN.{length, getD, set, length-set, length-append, length-map, length-replicate, List·getD-map}
-use Rattle.program.specs.Layout.{Program, CodeSection, programOf}
+use lib.ListN.{length, getD, length-set, length-append, length-map, length-replicate}
+use Rattle.program.specs.Layout.{Program, programOf}
 use Rattle.program.specs.Variable.{Variable}
 use Rattle.program.specs.declared.instruction.Instruction.{Instruction}
 use Rattle.program.specs.declared.layout.Layout.{Layout}
-use Rattle.program.proofs.Contents.{length-variables, length-threads}
+use Rattle.program.proofs.Contents.{length-variables}
+use Rattle.program.proofs.Lists.{getD-replicate-same, getD-set-holds}
 use Rattle.machine.specs.State.{State, start, fresh, threadOf, threadBytes, stateBytes}
 use Rattle.program.specs.Access.{accessOf}
+use Rattle.program.specs.Limits.{registerCount, threadSize, sizeOfState}
 use Rattle.machine.specs.Step.{valueRead, threadAfter, instructionOf, moveBy, outcome, after, step}
 use Rattle.machine.specs.Run.{Run, run, runFrom}
 use Rattle.machine.specs.declared.thread.Outcome.{Outcome}
@@ -30,17 +32,8 @@ use Rattle.machine.proofs.StateBytes.{length-each, length-words, length
 pub record Shape (p : Program) (s : State) : Type 0 where
   pub variables : length (s .variables) ≡ length (p .variables)
   pub locks : length (s .locks) ≡ p .locks
-  pub threads : length (s .threads) ≡ length (p .threads)
-  pub registers : (t : ℕ) → length (threadOf s t .registers) ≡ 8
-
--- the registers of any thread after one has changed
-registers-set : (ths : List Thread) (t : ℕ) (th : Thread) → length (th .registers) ≡ 8 → ((u : ℕ) → length (getD ths u fresh .registers) ≡ 8)
-    → (u : ℕ) → length (getD (set ths t th) u fresh .registers) ≡ 8
-registers-set [] t th e h u = h u
-registers-set (x ∷ ths) zero th e h zero = e
-registers-set (x ∷ ths) zero th e h (suc u) = h (suc u)
-registers-set (x ∷ ths) (suc t) th e h zero = h 0
-registers-set (x ∷ ths) (suc t) th e h (suc u) = registers-set ths t th e (λ v. h (suc v)) u
+  pub threads : length (s .threads) ≡ p .threads
+  pub registers : (t : ℕ) → length (threadOf s t .registers) ≡ registerCount
 
 module _ (p : Program) where
   pub shape-start : Shape p (start p)
@@ -48,9 +41,8 @@ module _ (p : Program) where
   shape-start = record {
     variables = length-map (p .variables) (λ (v : Variable). v .initial);
     locks = length-replicate (p .locks) 0;
-    threads = length-map (p .threads) (λ (c : CodeSection). fresh);
-    registers = λ t. ap (λ (th : Thread). length (th .registers))
-        (List·getD-map (λ (c : CodeSection). fresh) (p .threads) t (record { start = 0; code = [] }));
+    threads = length-replicate (p .threads) fresh;
+    registers = λ t. ap (λ (th : Thread). length (th .registers)) (getD-replicate-same (p .threads) t fresh);
   }
 
   shape-moved : (i : Instruction) (t : ℕ) (s : State) → Shape p s → Shape p (moveBy i t s)
@@ -59,7 +51,8 @@ module _ (p : Program) where
     variables = length-variables-after (accessOf i) (threadOf s t .registers) (s .variables) ∙ h .variables;
     locks = length-locks-after (accessOf i) t (s .locks) ∙ h .locks;
     threads = length-set (s .threads) t _ ∙ h .threads;
-    registers = registers-set (s .threads) t _ (length-registers-after i (valueRead (accessOf i) (s .variables)) (threadOf s t .registers) ∙ h .registers t) (h .registers);
+    registers = λ u. getD-set-holds (λ _ (th : Thread). length (th .registers) ≡ registerCount) (s .threads) t _ fresh
+        (length-registers-after i (valueRead (accessOf i) (s .variables)) (threadOf s t .registers) ∙ h .registers t) u (h .registers u);
   }
 
   shape-after : (o : Outcome) (s s′ : State) → Shape p s → Shape p s′ → Shape p (after o s s′)
@@ -80,7 +73,7 @@ module _ (p : Program) where
   unfolding run
   shape-run ts = shape-from _ ts shape-start
 
-  pub length-state : (s : State) → Shape p s → length (stateBytes s) ≡ 4 * length (p .variables) + p .locks + 34 * length (p .threads)
+  pub length-state : (s : State) → Shape p s → length (stateBytes s) ≡ sizeOfState (length (p .variables)) (p .locks) (p .threads)
   unfolding stateBytes threadOf
   length-state s h =
       rw (
@@ -89,17 +82,17 @@ module _ (p : Program) where
         length-words,
         h .variables,
         h .locks,
-        length-each threadBytes 34 (s .threads) fresh (λ i l. length-thread (getD (s .threads) i fresh) (h .registers i)),
+        length-each threadBytes threadSize (s .threads) fresh (λ i l. length-thread (getD (s .threads) i fresh) (h .registers i)),
         h .threads,
       )
 
-  pub length-end : (ts : List ℕ) → length (stateBytes (run p ts .state)) ≡ 4 * length (p .variables) + p .locks + 34 * length (p .threads)
+  pub length-end : (ts : List ℕ) → length (stateBytes (run p ts .state)) ≡ sizeOfState (length (p .variables)) (p .locks) (p .threads)
   length-end ts = length-state (run p ts .state) (shape-run ts)
 
 -- the same of a file's program, by its counts
 pub length-end-file : (s : List ℕ) (l : Layout) (ts : List ℕ)
-    → length (stateBytes (run (programOf s l) ts .state)) ≡ 4 * l .variables + l .locks + 34 * l .threads
+    → length (stateBytes (run (programOf s l) ts .state)) ≡ sizeOfState (l .variables) (l .locks) (l .threads)
 unfolding programOf
 length-end-file s l ts =
     length-end (programOf s l) ts
-    ∙ rw (length-variables (l .locks) (l .threads) s (l .variables) 5, length-threads (l .locks) (l .variables) s (l .threads) (5 + 6 * l .variables))
+    ∙ rw (length-variables (l .locks) (l .threads) s (l .variables) 5)

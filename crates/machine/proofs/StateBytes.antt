@@ -1,28 +1,25 @@
 -- The state's bytes, as loops write them. Assumes nothing.
---     sets-append       what is written, then what follows it
---     each-next         one element more
---     length-each       elements with as many bytes each
---     length-words      of numbers
---     length-threads    of threads with eight registers
---     write-each        a turn of the loop that writes element by element
---     write-byte        the same of bytes
---     sets-front        at the front of a buffer whose later bytes are kept
---     write-state       variables, locks and threads one after the other are the state
+--     each-next              one element more
+--     length-each            how many bytes, where each element has as many
+--     write-each             a turn of the loop that writes element by element
+--     length-words, length-first-words
+--                            the bytes of numbers, and of the first n of them
+--     length-thread, length-first-threads
+--                            ... of a thread with eight registers, and of the first n of them
+--     write-state            variables, locks and threads one after the other are the state
 use Prim.Native.Nat.{ℕ, suc, _+_, _*_, _≤_, _<_}
 use mathlib.Core.Path.{_≡_, refl, sym, ap, _∙_}
 use mathlib.Core.List.{List, [], _∷_, _++_, append-assoc, append-nil}
-use native.Mathlib.Nat.{le-of-lt, zero-add, add-zero, suc-add, add-suc, mul-zero, mul-suc}
+use native.Mathlib.Nat.{zero-add, mul-zero, mul-suc}
 use native.Mathlib.Numerals.{add-one}
 use native.Mathlib.Omega.{arith}
-use lib.ListN.{length, getD, set, take, drop, length-append}
-use lib.Seq.{sets, sets-eq, take-suc, getD-take, length-take-le}
+use lib.ListN.{length, getD, take, length-append}
+use lib.Seq.{sets, take-suc, getD-take, length-take-le}
+use Rattle.program.specs.Limits.{registerCount, threadSize}
+use Rattle.program.proofs.Lists.{sets-append}
 use Rattle.machine.specs.State.{State, each, pairBytes, wordBytes, threadBytes, stateBytes}
-use Rattle.machine.specs.Kept.{nobody}
+use Rattle.machine.specs.Internal.Kept.{nobody}
 use Rattle.machine.specs.declared.thread.Thread.{Thread}
-
-pub sets-append : (xs ys l : List ℕ) (i : ℕ) → sets l i (xs ++ ys) ≡ sets (sets l i xs) (i + length xs) ys
-sets-append [] ys l i = rw add-zero
-sets-append (x ∷ xs) ys l i = rw (add-suc, ← suc-add i (length xs)) (sets-append xs ys (set l i x) (suc i))
 
 module _ {A : Type 0} (bytes : A → List ℕ) where
   each-append : (xs ys : List A) → each bytes (xs ++ ys) ≡ each bytes xs ++ each bytes ys
@@ -55,22 +52,17 @@ length-words xs = length-each wordBytes 4 xs 0 (λ i h. refl)
 pub length-first-words : (xs : List ℕ) (n : ℕ) → n ≤ length xs → length (each wordBytes (take n xs)) ≡ 4 * n
 length-first-words xs n h = length-words (take n xs) ∙ rw (length-take-le n xs h)
 
-pub length-thread : (th : Thread) → length (th .registers) ≡ 8 → length (threadBytes th) ≡ 34
+pub length-thread : (th : Thread) → length (th .registers) ≡ registerCount → length (threadBytes th) ≡ threadSize
 unfolding threadBytes pairBytes
 length-thread th e = ap suc (ap suc (length-words (th .registers) ∙ rw e))
 
-pub length-first-threads : (xs : List Thread) (n : ℕ) → n ≤ length xs → ((i : ℕ) → i < n → length (getD xs i nobody .registers) ≡ 8)
-    → length (each threadBytes (take n xs)) ≡ 34 * n
+pub length-first-threads : (xs : List Thread) (n : ℕ) → n ≤ length xs → ((i : ℕ) → i < n → length (getD xs i nobody .registers) ≡ registerCount)
+    → length (each threadBytes (take n xs)) ≡ threadSize * n
 length-first-threads xs n h r =
     let e = length-take-le n xs h in
-    length-each threadBytes 34 (take n xs) nobody
+    length-each threadBytes threadSize (take n xs) nobody
     (λ i l. let k : i < n = omega (arith, e) in rw (getD-take n xs i nobody k) (length-thread (getD xs i nobody) (r i k)))
     ∙ rw e
-
--- a byte more
-pub write-byte : (l : List ℕ) (at : ℕ) (xs : List ℕ) (i : ℕ) → i < length xs
-    → set (sets l at (take i xs)) (at + i) (getD xs i 0) ≡ sets l at (take (i + 1) xs)
-write-byte l at xs i h = rw (add-one, take-suc xs i 0, sets-append, length-take-le i xs (le-of-lt h))
 
 -- the three parts of the state, each written past the one before
 pub write-state : (out : List ℕ) (s : State) (n m : ℕ) → length (each wordBytes (s .variables)) ≡ n → n + length (s .locks) ≡ m
@@ -78,15 +70,11 @@ pub write-state : (out : List ℕ) (s : State) (n m : ℕ) → length (each word
 unfolding stateBytes
 write-state out s n m e f =
     rw (
-      sets-append (each wordBytes (s .variables) ++ s .locks) (each threadBytes (s .threads)) out 0,
-      sets-append (each wordBytes (s .variables)) (s .locks) out 0,
+      sets-append out 0 (each wordBytes (s .variables) ++ s .locks) (each threadBytes (s .threads)),
+      sets-append out 0 (each wordBytes (s .variables)) (s .locks),
       length-append,
       e,
       zero-add,
       zero-add,
       f,
     )
-
--- bytes written at the front, and the later ones kept
-pub sets-front : (xs out : List ℕ) → length xs ≤ length out → sets out 0 xs ≡ xs ++ drop (length xs) out
-sets-front xs out h = sets-eq xs out 0 (omega arith) ∙ rw zero-add

@@ -4,14 +4,13 @@ use mathlib.Core.Path.{_≡_}
 use mathlib.Core.Logic.{_≢_}
 use mathlib.Core.Bool.{Bool, false, _&&_, _||_}
 use mathlib.Core.List.{List, [], _∷_}
-use lib.ListN.{length}
 use lib.Dec.{ltb, leb}
 use Rattle.program.specs.Instruction.{formOf}
-use Rattle.program.specs.Layout.{Program}
+use Rattle.program.specs.Layout.{Program, codeOf}
 use Rattle.program.specs.declared.instruction.Form.{Form}
 use Rattle.program.specs.declared.instruction.Form.the-variants.{Plain, If, Else, While, Again, Atomic, End}
 use Rattle.program.specs.declared.instruction.Instruction.{Instruction}
-use Rattle.machine.specs.State.{State, codeOf, threadOf, start}
+use Rattle.machine.specs.State.{State, threadOf, start}
 use Rattle.machine.specs.Step.{outcome, step}
 use Rattle.machine.specs.declared.thread.Outcome.the-variants.{Moved}
 
@@ -36,11 +35,11 @@ inside p s t = coveredFrom 0 (codeOf p t) (threadOf s t .place)
 
 -- no thread of the program but this one stands inside a block
 unfoldable pub OthersOutside : Program → State → ℕ → Type 0
-OthersOutside p s t = (u : ℕ) → u < length (p .threads) → u ≢ t → inside p s u ≡ false
+OthersOutside p s t = (u : ℕ) → u < p .threads → u ≢ t → inside p s u ≡ false
 
 -- "after the whole list no thread stands inside a block"
 unfoldable pub NobodyInside : Program → State → Type 0
-NobodyInside p s = (u : ℕ) → u < length (p .threads) → inside p s u ≡ false
+NobodyInside p s = (u : ℕ) → u < p .threads → inside p s u ≡ false
 
 -- "each of its entries moves and in the state before each entry no thread but that entry's own stands inside a block"
 unfoldable pub UninterruptedFrom : Program → State → List ℕ → Type 0

@@ -3,12 +3,9 @@
 --     Step     one entry of the list
 --     Run      a list, and its counts
 --     Block    standing inside a block; uninterrupted lists
--- For the contracts of functions inside the crate (of `run_list`: `countsOf`):
---     Reached  what a shared access finds and leaves
---     Kept     the state in arrays, and where each thread's code lies
+-- Internal holds what only proofs and inner functions use.
 pub mod State
 pub mod Step
 pub mod Run
 pub mod Block
-pub mod Reached
-pub mod Kept
+pub mod Internal

@@ -6,6 +6,7 @@ use lib.ListN.{length, getD}
 use Rattle.program.specs.Layout.{Program}
 use Rattle.machine.specs.State.{State, start}
 use Rattle.machine.specs.Step.{outcome, step}
+use Rattle.machine.specs.declared.run.Counts.{Counts}
 use Rattle.machine.specs.declared.thread.Outcome.{Outcome}
 use Rattle.machine.specs.declared.thread.Outcome.the-variants.{Moved, Waiting, Idle}
 
@@ -14,11 +15,6 @@ unfoldable pub Entries : (threads : ℕ) → List ℕ → Type 0
 Entries threads list = (i : ℕ) → i < length list → getD list i 0 < threads
 
 -- "each the number of entries of that kind"
-pub record Counts : Type 0 where
-  pub moved : ℕ
-  pub waiting : ℕ
-  pub idle : ℕ
-
 abbrev pub counted : Outcome → Counts → Counts
 counted Moved c = record { moved = c .moved + 1; waiting = c .waiting; idle = c .idle }
 counted Waiting c = record { moved = c .moved; waiting = c .waiting + 1; idle = c .idle }

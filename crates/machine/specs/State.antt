@@ -3,9 +3,9 @@
 use Prim.Native.Nat.{ℕ, _/_, _%_}
 use mathlib.Core.List.{List, [], _∷_, _++_, map}
 use lib.ListN.{getD, replicate}
-use Rattle.program.specs.Layout.{Program, CodeSection}
+use Rattle.program.specs.Layout.{Program}
+use Rattle.program.specs.Limits.{registerCount}
 use Rattle.program.specs.Variable.{Variable}
-use Rattle.program.specs.declared.instruction.Instruction.{Instruction}
 use Rattle.machine.specs.declared.thread.Thread.{Thread}
 
 pub record State : Type 0 where
@@ -15,20 +15,17 @@ pub record State : Type 0 where
 
 -- "places and registers 0"
 unfoldable pub fresh : Thread
-fresh = record { place = 0; registers = replicate 8 0 }
+fresh = record { place = 0; registers = replicate registerCount 0 }
 
 -- "Start: initial values, locks free, places and registers 0"
 unfoldable pub start : Program → State
 start p = record {
   variables = map (λ (v : Variable). v .initial) (p .variables);
   locks = replicate (p .locks) 0;
-  threads = map (λ (c : CodeSection). fresh) (p .threads);
+  threads = replicate (p .threads) fresh;
 }
 
--- a thread's code, and its part of the state
-unfoldable pub codeOf : Program → ℕ → List Instruction
-codeOf p t = getD (p .threads) t (record { start = 0; code = [] }) .code
-
+-- a thread's part of the state
 unfoldable pub threadOf : State → ℕ → Thread
 threadOf s t = getD (s .threads) t fresh
 

@@ -6,10 +6,14 @@ use lib.ListN.{length, getD, set}
 use lib.Dec.{ltb, eqb}
 use Rattle.program.specs.Access.{Access, none, reads, writes, takes, gives, accessOf}
 use Rattle.program.specs.Choice.{choose}
-use Rattle.program.specs.Layout.{Program}
+use Rattle.program.specs.Layout.{Program, codeOf}
+use Rattle.program.specs.Instruction.{formOf}
+use Rattle.program.specs.declared.instruction.Form.{Form}
+use Rattle.program.specs.declared.instruction.Form.the-variants.{Plain}
+use Rattle.program.specs.declared.instruction.Form.the-variants as form
 use Rattle.program.specs.declared.instruction.Instruction.{Instruction}
 use Rattle.program.specs.declared.instruction.Instruction.the-variants.{Set, Copy, Add, Sub, Less, Read, Write, Take, Give, If, Else, While, Again, Atomic, End}
-use Rattle.machine.specs.State.{State, codeOf, threadOf}
+use Rattle.machine.specs.State.{State, threadOf}
 use Rattle.machine.specs.declared.thread.Outcome.{Outcome}
 use Rattle.machine.specs.declared.thread.Outcome.the-variants.{Moved, Waiting, Idle}
 use Rattle.machine.specs.declared.thread.Thread.{Thread}
@@ -77,22 +81,17 @@ registersAfter End x r = r
 unfoldable pub branch : List ℕ → (a n place : ℕ) → ℕ
 branch r a n place = choose (eqb (reg r a) 0) (place + n + 1) (place + 1)
 
+unfoldable pub placeBehind : Form → List ℕ → ℕ → ℕ
+placeBehind Plain r place = place + 1
+placeBehind (form.If a n) r place = branch r a n place
+placeBehind (form.Else n) r place = place + n
+placeBehind (form.While a n) r place = branch r a n place
+placeBehind (form.Again n) r place = place - n
+placeBehind (form.Atomic n) r place = place + 1
+placeBehind form.End r place = place + 1
+
 unfoldable pub placeAfter : Instruction → List ℕ → ℕ → ℕ
-placeAfter (Set a n) r place = place + 1
-placeAfter (Copy a b) r place = place + 1
-placeAfter (Add a b c) r place = place + 1
-placeAfter (Sub a b c) r place = place + 1
-placeAfter (Less a b c) r place = place + 1
-placeAfter (Read a v) r place = place + 1
-placeAfter (Write a v) r place = place + 1
-placeAfter (Take k) r place = place + 1
-placeAfter (Give k) r place = place + 1
-placeAfter (If a n) r place = branch r a n place
-placeAfter (Else n) r place = place + n
-placeAfter (While a n) r place = branch r a n place
-placeAfter (Again n) r place = place - n
-placeAfter (Atomic n) r place = place + 1
-placeAfter End r place = place + 1
+placeAfter i r place = placeBehind (formOf i) r place
 
 unfoldable pub threadAfter : Instruction → (value : ℕ) → Thread → Thread
 threadAfter i x th = record { place = placeAfter i (th .registers) (th .place); registers = registersAfter i x (th .registers) }

@@ -1,12 +1,16 @@
 // One entry of the list: the shared access that an instruction makes (document 01, "The step machine").
 use crate::thread::register;
 use program::instruction::Instruction;
+use program::limits::LOCK_LIMIT;
+use program::limits::REGISTER_COUNT;
+use program::limits::VARIABLE_LIMIT;
 ghost use mathlib.Core.Path.{_≡_};
 ghost use Prim.Native.Nat.{_<_};
-ghost use Rattle.machine.specs.Reached.{shared, locksLeft};
-ghost use Rattle.program.specs.Sound.{FieldsGood};
+ghost use Rattle.machine.specs.Internal.Reached.{shared, locksLeft};
+ghost use Rattle.program.specs.Internal.Sound.{FieldsGood};
 ghost use mathlib.Core.List.{[]};
 ghost use Rattle.program.specs.Access.{accessOf, takes};
+ghost use Rattle.program.specs.Limits.{lockLimit, threadLimit, variableLimit};
 ghost use Rattle.machine.specs.Step.{variablesAfter};
 
 // What the access finds.
@@ -18,8 +22,8 @@ pub enum Shared {
 }
 
 // TAKE sets the lock if it is free.
-fn take(k: u8, t: u8, locks: &mut [u8; 16]) -> Shared
-    requires { ⌜ (k < 16) × (t < 8) ⌝ }
+fn take(k: u8, t: u8, locks: &mut [u8; LOCK_LIMIT]) -> Shared
+    requires { ⌜ (k < lockLimit) × (t < threadLimit) ⌝ }
     ensures { λ r. ⌜ r ≡ shared (takes k) (now (locks .entry)) [] ⌝ }
     ensures { λ r. ⌜ now (locks .exit) ≡ locksLeft (takes k) t (now (locks .entry)) ⌝ }
 {
@@ -35,11 +39,11 @@ fn take(k: u8, t: u8, locks: &mut [u8; 16]) -> Shared
 pub fn access(
     i: Instruction,
     t: u8,
-    r: [u32; 8],
-    variables: &mut [u32; 64],
-    locks: &mut [u8; 16],
+    r: [u32; REGISTER_COUNT],
+    variables: &mut [u32; VARIABLE_LIMIT],
+    locks: &mut [u8; LOCK_LIMIT],
 ) -> Shared
-    requires { ⌜ FieldsGood 16 64 i × (t < 8) ⌝ }
+    requires { ⌜ FieldsGood lockLimit variableLimit i × (t < threadLimit) ⌝ }
     ensures { λ q. ⌜ q ≡ shared (accessOf i) (now (locks .entry)) (now (variables .entry)) ⌝ }
     ensures { λ q. ⌜ now (variables .exit) ≡ variablesAfter (accessOf i) r (now (variables .entry)) ⌝ }
     ensures { λ q. ⌜ now (locks .exit) ≡ locksLeft (accessOf i) t (now (locks .entry)) ⌝ }

@@ -8,15 +8,21 @@ use crate::thread::Thread;
 use crate::thread::thread_after;
 use program::instruction::valid_instruction_at;
 use program::layout::Layout;
+use program::limits::INSTRUCTION_SIZE;
+use program::limits::LOCK_LIMIT;
+use program::limits::REGISTER_COUNT;
+use program::limits::THREAD_LIMIT;
+use program::limits::VARIABLE_LIMIT;
 ghost use mathlib.Core.Path.{_≡_};
 ghost use mathlib.Core.List.{_++_};
-ghost use Prim.Native.Nat.{_+_, _*_, _≤_};
+ghost use Prim.Native.Nat.{_≤_};
 ghost use lib.ListN.{length, drop};
 ghost use Rattle.program.specs.Layout.{programOf};
-ghost use Rattle.program.specs.Sound.{SoundFile};
+ghost use Rattle.program.specs.Limits.{lockLimit, variableLimit, sizeOfState};
+ghost use Rattle.program.specs.Internal.Sound.{SoundFile};
 ghost use Rattle.machine.specs.State.{stateBytes};
 ghost use Rattle.machine.specs.Run.{Entries, runFrom, run};
-ghost use Rattle.machine.specs.Kept.{Prepared, Kept, fromHere, countsOf, ranIn};
+ghost use Rattle.machine.specs.Internal.Kept.{Prepared, Kept, fromHere, finalIn};
 
 // How many entries moved, waited and were idle.
 pub struct Counts {
@@ -26,9 +32,9 @@ pub struct Counts {
 }
 
 // What a list leaves beside the variables and the locks.
-pub struct Ran {
+pub struct Final {
     pub counts: Counts,
-    pub threads: [Thread; 8],
+    pub threads: [Thread; THREAD_LIMIT],
 }
 
 // The entries of a list, one after the other. The layout is there for the contract: a sound file's instructions are valid, so the loop
@@ -37,20 +43,20 @@ fn entries(
     s: &[u8],
     l: Layout,
     list: &[u8],
-    starts: [usize; 8],
-    sizes: [usize; 8],
-    variables: &mut [u32; 64],
-    locks: &mut [u8; 16],
-) -> Ran
-    requires { ⌜ Prepared (now s) l starts sizes × Entries (l .threads) (now list) × (length (now variables) ≡ 64) × (length (now locks) ≡ 16) ⌝ }
-    ensures { λ r. ⌜ runFrom (programOf (now (s .entry)) l) (fromHere l (now (variables .entry)) (now (locks .entry))) (now (list .entry)) ≡ ranIn l r (now (variables .exit)) (now (locks .exit)) ⌝ }
+    starts: [usize; THREAD_LIMIT],
+    sizes: [usize; THREAD_LIMIT],
+    variables: &mut [u32; VARIABLE_LIMIT],
+    locks: &mut [u8; LOCK_LIMIT],
+) -> Final
+    requires { ⌜ Prepared (now s) l starts sizes × Entries (l .threads) (now list) × (length (now variables) ≡ variableLimit) × (length (now locks) ≡ lockLimit) ⌝ }
+    ensures { λ r. ⌜ runFrom (programOf (now (s .entry)) l) (fromHere l (now (variables .entry)) (now (locks .entry))) (now (list .entry)) ≡ finalIn l r (now (variables .exit)) (now (locks .exit)) ⌝ }
     ensures { λ r. ⌜ Kept l sizes (now (variables .exit)) (now (locks .exit)) (r .threads) ⌝ }
 {
     let start = Thread {
         place: 0,
-        registers: [0; 8],
+        registers: [0; REGISTER_COUNT],
     };
-    let mut threads = [start; 8];
+    let mut threads = [start; THREAD_LIMIT];
     let mut moved: usize = 0;
     let mut waiting: usize = 0;
     let mut idle: usize = 0;
@@ -64,7 +70,7 @@ fn entries(
         if place == sizes[at] {
             idle += 1;
         } else {
-            let ins = valid_instruction_at(s, starts[at] + 4 * place);
+            let ins = valid_instruction_at(s, starts[at] + INSTRUCTION_SIZE * place);
             let r = th.registers;
             match access(ins, t, r, variables, locks) {
                 Shared::Waits => {
@@ -77,7 +83,7 @@ fn entries(
             }
         }
     }
-    Ran {
+    Final {
         counts: Counts {
             moved: moved,
             waiting: waiting,
@@ -89,14 +95,14 @@ fn entries(
 
 // A list, run from the start of a sound file's program: the counts, and the end state's bytes.
 pub fn run_list(s: &[u8], l: Layout, list: &[u8], out: &mut [u8]) -> Counts
-    requires { ⌜ SoundFile (now s) l × Entries (l .threads) (now list) × (4 * l .variables + l .locks + 34 * l .threads ≤ length (now out)) ⌝ }
-    ensures counts { λ r. ⌜ countsOf r ≡ run (programOf (now (s .entry)) l) (now (list .entry)) .counts ⌝ }
+    requires { ⌜ SoundFile (now s) l × Entries (l .threads) (now list) × (sizeOfState (l .variables) (l .locks) (l .threads) ≤ length (now out)) ⌝ }
+    ensures counts { λ r. ⌜ r ≡ run (programOf (now (s .entry)) l) (now (list .entry)) .counts ⌝ }
     ensures state { λ r. ⌜ now (out .exit) ≡ stateBytes (run (programOf (now (s .entry)) l) (now (list .entry)) .state) ++ drop (length (stateBytes (run (programOf (now (s .entry)) l) (now (list .entry)) .state))) (now (out .entry)) ⌝ }
 {
-    let mut variables = [0u32; 64];
-    let mut locks = [0u8; 16];
-    let mut starts = [0usize; 8];
-    let mut sizes = [0usize; 8];
+    let mut variables = [0u32; VARIABLE_LIMIT];
+    let mut locks = [0u8; LOCK_LIMIT];
+    let mut starts = [0usize; THREAD_LIMIT];
+    let mut sizes = [0usize; THREAD_LIMIT];
     initial_values(s, l, &mut variables);
     find_code(s, l, &mut starts, &mut sizes);
     let ran = entries(s, l, list, starts, sizes, &mut variables, &mut locks);

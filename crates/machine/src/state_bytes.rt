@@ -1,11 +1,16 @@
 // The state's bytes (document 01, "The step machine": "It writes the end state").
 use crate::thread::Thread;
 use program::layout::Layout;
+use program::limits::REGISTER_COUNT;
+use program::limits::THREAD_LIMIT;
+use program::limits::THREAD_SIZE;
+use program::limits::WORD_SIZE;
 ghost use mathlib.Core.Path.{_≡_};
 ghost use Prim.Native.Nat.{_+_, _*_, _≤_};
 ghost use lib.ListN.{length, take};
 ghost use lib.Seq.{sets};
-ghost use Rattle.machine.specs.Kept.{stateIn, EightRegisters};
+ghost use Rattle.program.specs.Limits.{threadLimit, registerCount, wordSize, threadSize, sizeOfState};
+ghost use Rattle.machine.specs.Internal.Kept.{stateIn, EightRegisters};
 ghost use Rattle.machine.specs.State.{pairBytes, wordBytes, threadBytes, stateBytes, each};
 
 // A number of two bytes.
@@ -19,7 +24,7 @@ fn write_pair(out: &mut [u8], at: usize, x: usize)
 
 // A number of four bytes.
 fn write_word(out: &mut [u8], at: usize, x: u32)
-    requires { ⌜ at + 4 ≤ length (now out) ⌝ }
+    requires { ⌜ at + wordSize ≤ length (now out) ⌝ }
     ensures { λ r. ⌜ now (out .exit) ≡ sets (now (out .entry)) at (wordBytes x) ⌝ }
 {
     out[at] = (x / 16777216 % 256) as u8;
@@ -30,12 +35,12 @@ fn write_word(out: &mut [u8], at: usize, x: u32)
 
 // The first n numbers, four bytes each: variables, and registers.
 fn write_words(out: &mut [u8], at: usize, n: usize, words: &[u32])
-    requires { ⌜ (at + 4 * n ≤ length (now out)) × (n ≤ length (now words)) ⌝ }
+    requires { ⌜ (at + wordSize * n ≤ length (now out)) × (n ≤ length (now words)) ⌝ }
     ensures { λ r. ⌜ now (out .exit) ≡ sets (now (out .entry)) at (each wordBytes (take n (now (words .entry)))) ⌝ }
 {
     let mut i: usize = 0;
     while i < n {
-        write_word(out, at + 4 * i, words[i]);
+        write_word(out, at + WORD_SIZE * i, words[i]);
         i += 1;
     }
 }
@@ -54,33 +59,39 @@ fn write_bytes(out: &mut [u8], at: usize, n: usize, bytes: &[u8])
 
 // A thread: its place, then its registers.
 fn write_thread(out: &mut [u8], at: usize, th: Thread)
-    requires { ⌜ (at + 34 ≤ length (now out)) × (length (th .registers) ≡ 8) ⌝ }
+    requires { ⌜ (at + threadSize ≤ length (now out)) × (length (th .registers) ≡ registerCount) ⌝ }
     ensures { λ r. ⌜ now (out .exit) ≡ sets (now (out .entry)) at (threadBytes th) ⌝ }
 {
     write_pair(out, at, th.place);
     let r = th.registers;
-    write_words(out, at + 2, 8, &r);
+    write_words(out, at + 2, REGISTER_COUNT, &r);
 }
 
 // The first n threads.
-fn write_threads(out: &mut [u8], at: usize, n: usize, threads: [Thread; 8])
-    requires { ⌜ (at + 34 * n ≤ length (now out)) × (n ≤ 8) × EightRegisters threads ⌝ }
+fn write_threads(out: &mut [u8], at: usize, n: usize, threads: [Thread; THREAD_LIMIT])
+    requires { ⌜ (at + threadSize * n ≤ length (now out)) × (n ≤ threadLimit) × EightRegisters threads ⌝ }
     ensures { λ r. ⌜ now (out .exit) ≡ sets (now (out .entry)) at (each threadBytes (take n threads)) ⌝ }
 {
     let mut i: usize = 0;
     while i < n {
-        write_thread(out, at + 34 * i, threads[i]);
+        write_thread(out, at + THREAD_SIZE * i, threads[i]);
         i += 1;
     }
 }
 
 // The state: variables, locks, threads.
-pub fn write_state(out: &mut [u8], l: Layout, variables: &[u32], locks: &[u8], threads: [Thread; 8])
-    requires { ⌜ 4 * l .variables + l .locks + 34 * l .threads ≤ length (now out) ⌝ }
-    requires { ⌜ (l .variables ≤ length (now variables)) × (l .locks ≤ length (now locks)) × (l .threads ≤ 8) × EightRegisters threads ⌝ }
+pub fn write_state(
+    out: &mut [u8],
+    l: Layout,
+    variables: &[u32],
+    locks: &[u8],
+    threads: [Thread; THREAD_LIMIT],
+)
+    requires { ⌜ sizeOfState (l .variables) (l .locks) (l .threads) ≤ length (now out) ⌝ }
+    requires { ⌜ (l .variables ≤ length (now variables)) × (l .locks ≤ length (now locks)) × (l .threads ≤ threadLimit) × EightRegisters threads ⌝ }
     ensures { λ r. ⌜ now (out .exit) ≡ sets (now (out .entry)) 0 (stateBytes (stateIn l (now (variables .entry)) (now (locks .entry)) threads)) ⌝ }
 {
-    let past_variables = 4 * l.variables;
+    let past_variables = WORD_SIZE * l.variables;
     let past_locks = past_variables + l.locks;
     write_words(out, 0, l.variables, variables);
     write_bytes(out, past_variables, l.locks, locks);

@@ -1,16 +1,19 @@
 // A thread's part of the state, and what an entry of the list did (document 01, "The step machine").
 use program::instruction::Instruction;
+use program::limits::REGISTER_COUNT;
 ghost use mathlib.Core.Path.{_≡_};
 ghost use Prim.Native.Nat.{_+_, _-_, _%_, _^_, _≤_, _<_};
 ghost use lib.ListN.{set};
 ghost use lib.Dec.{ltb, eqb};
 ghost use Rattle.program.specs.Choice.{choose};
-ghost use Rattle.program.specs.Sound.{FieldsGood};
+ghost use Rattle.program.specs.Limits.{lockLimit, variableLimit, registerCount};
+ghost use Rattle.program.specs.Internal.Bounds.{largestPlace};
+ghost use Rattle.program.specs.Internal.Sound.{FieldsGood};
 ghost use Rattle.machine.specs.Step.{reg, registersAfter, branch, placeAfter, threadAfter};
 
 pub struct Thread {
     pub place: usize,
-    pub registers: [u32; 8],
+    pub registers: [u32; REGISTER_COUNT],
 }
 
 pub enum Outcome {
@@ -20,8 +23,8 @@ pub enum Outcome {
 }
 
 // The value of a register.
-pub fn register(registers: [u32; 8], a: u8) -> u32
-    requires { ⌜ a < 8 ⌝ }
+pub fn register(registers: [u32; REGISTER_COUNT], a: u8) -> u32
+    requires { ⌜ a < registerCount ⌝ }
     ensures { λ x. ⌜ x ≡ reg registers a ⌝ }
 {
     registers[a as usize]
@@ -36,8 +39,8 @@ fn chosen(a: u8, k: u8, x: u32, y: u32) -> u32
 
 // The registers with another value in one. Each is chosen, so that all eight are stored together: a store of one alone makes the
 // processor wait where they are next read together.
-fn with_register(registers: [u32; 8], a: u8, x: u32) -> [u32; 8]
-    requires { ⌜ a < 8 ⌝ }
+fn with_register(registers: [u32; REGISTER_COUNT], a: u8, x: u32) -> [u32; REGISTER_COUNT]
+    requires { ⌜ a < registerCount ⌝ }
     ensures { λ r. ⌜ r ≡ set registers a x ⌝ }
 {
     [
@@ -53,8 +56,8 @@ fn with_register(registers: [u32; 8], a: u8, x: u32) -> [u32; 8]
 }
 
 // The registers after an instruction, where a READ finds `value`.
-fn registers_after(i: Instruction, value: u32, r: [u32; 8]) -> [u32; 8]
-    requires { ⌜ FieldsGood 16 64 i ⌝ }
+fn registers_after(i: Instruction, value: u32, r: [u32; REGISTER_COUNT]) -> [u32; REGISTER_COUNT]
+    requires { ⌜ FieldsGood lockLimit variableLimit i ⌝ }
     ensures { λ s. ⌜ s ≡ registersAfter i value r ⌝ }
 {
     match i {
@@ -99,8 +102,8 @@ fn less(b: u32, c: u32) -> u32
 }
 
 // Where IF and WHILE go: the next place if the register is not 0, else one past the named place.
-fn branched(r: [u32; 8], a: u8, n: u16, place: usize) -> usize
-    requires { ⌜ (a < 8) × (place ≤ 65535) ⌝ }
+fn branched(r: [u32; REGISTER_COUNT], a: u8, n: u16, place: usize) -> usize
+    requires { ⌜ (a < registerCount) × (place ≤ largestPlace) ⌝ }
     ensures { λ p. ⌜ p ≡ branch r a n place ⌝ }
 {
     if register(r, a) == 0 {
@@ -121,8 +124,8 @@ fn back(place: usize, n: u16) -> usize
 }
 
 // The place after an instruction.
-fn place_after(i: Instruction, r: [u32; 8], place: usize) -> usize
-    requires { ⌜ FieldsGood 16 64 i × (place ≤ 65535) ⌝ }
+fn place_after(i: Instruction, r: [u32; REGISTER_COUNT], place: usize) -> usize
+    requires { ⌜ FieldsGood lockLimit variableLimit i × (place ≤ largestPlace) ⌝ }
     ensures { λ p. ⌜ p ≡ placeAfter i r place ⌝ }
 {
     let next = place + 1;
@@ -147,7 +150,7 @@ fn place_after(i: Instruction, r: [u32; 8], place: usize) -> usize
 
 // A thread after an instruction, where a READ finds `value`.
 pub fn thread_after(i: Instruction, value: u32, th: Thread) -> Thread
-    requires { ⌜ FieldsGood 16 64 i × (th .place ≤ 65535) ⌝ }
+    requires { ⌜ FieldsGood lockLimit variableLimit i × (th .place ≤ largestPlace) ⌝ }
     ensures { λ u. ⌜ u ≡ threadAfter i value th ⌝ }
 {
     let r = th.registers;
@@ -160,7 +163,7 @@ pub fn thread_after(i: Instruction, value: u32, th: Thread) -> Thread
 
 // The same where the thread stands: lent, and replaced by what it is after the instruction.
 pub fn move_thread(th: &mut Thread, i: Instruction, value: u32)
-    requires { ⌜ FieldsGood 16 64 i × (now th .place ≤ 65535) ⌝ }
+    requires { ⌜ FieldsGood lockLimit variableLimit i × (now th .place ≤ largestPlace) ⌝ }
     ensures { λ r. ⌜ now (th .exit) ≡ threadAfter i value (now (th .entry)) ⌝ }
 {
     *th = thread_after(i, value, *th);

@@ -1,5 +1,10 @@
--- Laws of hexadecimal and decimal digits: one digit more, and how many there are.
--- Assumes nothing.
+-- Laws of hexadecimal and decimal digits. Assumes nothing.
+--     hexes-append                  the digits of bytes one after the other
+--     raw-more                      one raw byte more
+--     digits-small, digits-large    the digits of a number of one digit; of more: the last digit after those of its tenth
+--     decimal-length                how many digits a number below a power of ten has
+--     decimal-small, decimal-large  a number in decimal, by its last digit
+--     decimal-large-length          it has one digit more than its tenth
 use mathlib.Core.Path.{_≡_, refl, sym, ap, _∙_}
 use mathlib.Core.Logic.{_⊎_, inl, inr, ⊎-elim}
 use mathlib.Core.List.{List, [], _∷_, _++_, append-assoc, append-nil}
@@ -49,15 +54,15 @@ small-or-large n = elim (decLe 10 n) [
 ]
 
 -- a number's tenth has a digit less
-tenth : (k n : ℕ) → n < 10 ^ suc k → n / 10 < 10 ^ k
-tenth k n h = omega (arith, pow-suc 10 k)
+tenth-below : (k n : ℕ) → n < 10 ^ suc k → n / 10 < 10 ^ k
+tenth-below k n h = omega (arith, pow-suc 10 k)
 
 -- room for more digits than there are changes nothing
 digits-room : (k n : ℕ) → n < 10 ^ suc k → digits (suc k) n ≡ digits (suc (suc k)) n
 digits-room zero n h = digits-small 0 n (omega (arith, pow-suc 10 0)) ∙ sym (digits-small 1 n (omega (arith, pow-suc 10 0)))
 digits-room (suc k) n h = ⊎-elim
     (λ s. digits-small (suc k) n s ∙ sym (digits-small (suc (suc k)) n s))
-    (λ l. digits-large (suc k) n l ∙ ap (λ (z : List ℕ). z ++ (48 + n % 10) ∷ []) (digits-room k (n / 10) (tenth (suc k) n h)) ∙ sym (digits-large (suc (suc k)) n l))
+    (λ l. digits-large (suc k) n l ∙ ap (λ (z : List ℕ). z ++ (48 + n % 10) ∷ []) (digits-room k (n / 10) (tenth-below (suc k) n h)) ∙ sym (digits-large (suc (suc k)) n l))
     (small-or-large n)
 
 -- how many there are
@@ -67,7 +72,7 @@ digits-length zero k n h = omega arith
 digits-length (suc m) zero n h = rw (digits-small m n (omega (arith, pow-suc 10 0))) (omega arith)
 digits-length (suc m) (suc k) n h = ⊎-elim
     (λ s. rw (digits-small m n s) (omega arith))
-    (λ l. rw (digits-large m n l, length-append (digits m (n / 10)) ((48 + n % 10) ∷ [])) (omega (arith, digits-length m k (n / 10) (tenth (suc k) n h))))
+    (λ l. rw (digits-large m n l, length-append (digits m (n / 10)) ((48 + n % 10) ∷ [])) (omega (arith, digits-length m k (n / 10) (tenth-below (suc k) n h))))
     (small-or-large n)
 
 pub decimal-length : (k n : ℕ) → n < 10 ^ suc k → length (decimal n) ≤ suc k
@@ -80,7 +85,7 @@ decimal-small n h = digits-small 19 n h
 
 pub decimal-large : (n : ℕ) → 10 ≤ n → n < 10 ^ 20 → decimal n ≡ decimal (n / 10) ++ (48 + n % 10) ∷ []
 unfolding decimal
-decimal-large n l h = digits-large 19 n l ∙ ap (λ (z : List ℕ). z ++ (48 + n % 10) ∷ []) (digits-room 18 (n / 10) (tenth 19 n h))
+decimal-large n l h = digits-large 19 n l ∙ ap (λ (z : List ℕ). z ++ (48 + n % 10) ∷ []) (digits-room 18 (n / 10) (tenth-below 19 n h))
 
 pub decimal-large-length : (n : ℕ) → 10 ≤ n → n < 10 ^ 20 → length (decimal n) ≡ length (decimal (n / 10)) + 1
 decimal-large-length n l h = ap length (decimal-large n l h) ∙ length-append (decimal (n / 10)) ((48 + n % 10) ∷ [])

@@ -1,18 +1,18 @@
--- The lines see of the report's buffer the report alone: what stands after it changes nothing. For callers that keep the report in a
--- longer array.
--- Assumes nothing.
+-- The lines see of the report's buffer the report alone. For callers that keep the report in a longer array. Assumes nothing.
+--     lines-report   what stands after the report changes no line
 use mathlib.Core.Path.{_≡_, refl}
 use mathlib.Core.List.{List, [], _∷_, _++_}
 use Prim.Native.Nat.{ℕ, zero, suc, _+_, _-_, _*_, _≤_}
 use native.Mathlib.Omega.{arith}
 use lib.ListN.{length, drop, length-drop, List·getD-append}
 use lib.Seq.{drop-append-le}
-use Rattle.program.specs.Layout.{instructionsAt, threadsAt, programOf}
-use Rattle.program.specs.Sound.{SoundSections, SoundFile, countAt}
+use Rattle.program.specs.Layout.{instructionsAt, codesAt, programOf}
+use Rattle.program.specs.Limits.{recordOffset}
+use Rattle.program.specs.Internal.Sound.{SoundSections, SoundFile, countAt}
 use Rattle.program.specs.declared.instruction.Instruction.{Instruction}
 use Rattle.program.specs.declared.layout.Layout.{Layout}
 use Rattle.program.proofs.Contents.{length-instructions}
-use Rattle.printout.specs.Line.{codeLines, threadLines, wholeLines, lines}
+use Rattle.printout.specs.Line.{codeLines, sectionLines, wholeLines, lines}
 
 -- the lines of code
 code-report : (s : List ℕ) (at place : ℕ) (is : List Instruction) (report rest : List ℕ) → length is ≤ length report
@@ -25,8 +25,8 @@ code-report s at place (i ∷ is) (b ∷ report) rest h = rw (code-report s (at 
 module _ (s : List ℕ) (locks variables : ℕ) (rest : List ℕ) where
   -- the threads' lines
   threads-report : (n t at m : ℕ) (report : List ℕ) → SoundSections s locks variables n at m → m + n ≤ length report
-      → threadLines s t (threadsAt locks variables s n at) (report ++ rest) ≡ threadLines s t (threadsAt locks variables s n at) report
-  unfolding threadLines threadsAt
+      → sectionLines s t (codesAt locks variables s n at) (report ++ rest) ≡ sectionLines s t (codesAt locks variables s n at) report
+  unfolding sectionLines codesAt
   threads-report zero t at m report x h = refl
   threads-report (suc n) t at m report x h =
       let is : List Instruction = instructionsAt locks variables s (countAt s at) (at + 2) in
@@ -39,8 +39,8 @@ module _ (s : List ℕ) (locks variables : ℕ) (rest : List ℕ) where
 
   -- the wholes' lines
   wholes-report : (n t at m : ℕ) (report : List ℕ) → SoundSections s locks variables n at m → m + n ≤ length report
-      → wholeLines t (threadsAt locks variables s n at) (report ++ rest) ≡ wholeLines t (threadsAt locks variables s n at) report
-  unfolding wholeLines threadsAt
+      → wholeLines t (codesAt locks variables s n at) (report ++ rest) ≡ wholeLines t (codesAt locks variables s n at) report
+  unfolding wholeLines codesAt
   wholes-report zero t at m report x h = refl
   wholes-report (suc n) t at m report x h =
       let is : List Instruction = instructionsAt locks variables s (countAt s at) (at + 2) in
@@ -57,6 +57,6 @@ pub lines-report : (s : List ℕ) (l : Layout) (report rest : List ℕ) → Soun
 unfolding lines programOf
 lines-report s l report rest f h =
     rw (
-      threads-report s (l .locks) (l .variables) rest (l .threads) 0 (5 + 6 * l .variables) (l .instructions) report (f .sections) h,
-      wholes-report s (l .locks) (l .variables) rest (l .threads) 0 (5 + 6 * l .variables) (l .instructions) report (f .sections) h,
+      threads-report s (l .locks) (l .variables) rest (l .threads) 0 (recordOffset (l .variables)) (l .instructions) report (f .sections) h,
+      wholes-report s (l .locks) (l .variables) rest (l .threads) 0 (recordOffset (l .variables)) (l .instructions) report (f .sections) h,
     )

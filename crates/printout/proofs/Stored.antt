@@ -1,22 +1,26 @@
--- Laws of `Laid`: what is written piece by piece is the whole, once for every line.
--- In order: two runs of stores; a run and one byte more; words and lines.
--- Assumes nothing.
+-- Laws of `Laid`: what is written piece by piece is the whole, once for every line. Assumes nothing.
+--     laid-none, laid-byte         nothing written; one byte
+--     laid-same                    the same bytes to the same position, said another way
+--     laid-then, laid-more         what two calls write one after the other; one byte more
+--     laid-copied                  one byte more of a word that is copied
+--     word-ended, word-first       a word and the byte that ends it; a word with a byte before it
+--     line-last, line-more         the last word of a line; a word of a line, and the line of the others
+--     line-with, line-several      a word and several words, and the line of the others; several words before those
+--     words-more, words-last       words with a blank after each: one more, and the last
+--     line-written, line-written-same
+--                                  a line laid from the buffer's start on: its bytes, then the buffer's rest; the same line, said another way
 use mathlib.Core.Path.{_≡_, refl, sym, ap, _∙_}
 use mathlib.Core.List.{List, [], _∷_, _++_, append-assoc, append-nil}
-use Prim.Native.Nat.{ℕ, suc, _+_, _≤_, _<_}
-use native.Mathlib.Nat.{add-zero, add-suc, suc-add}
+use Prim.Native.Nat.{ℕ, _+_, _≤_, _<_}
+use native.Mathlib.Nat.{add-zero}
 use native.Mathlib.Numerals.{add-one}
 use native.Mathlib.Omega.{arith}
 use lib.ListN.{length, getD, set, take, drop, length-append}
 use lib.Seq.{sets, sets-eq, take-suc}
+use Rattle.program.specs.Limits.{lineSize}
+use Rattle.program.proofs.Lists.{sets-append}
 use Rattle.printout.specs.Text.{ascii, spaced, lineOf}
-use Rattle.printout.specs.Writing.{Laid, LaidWord, LaidWords, LaidLine, Printed, ended, blanked}
-
--- one run of stores, then another right after it
-pub sets-append : (xs l ys : List ℕ) (at : ℕ) → sets l at (xs ++ ys) ≡ sets (sets l at xs) (at + length xs) ys
-sets-append [] l ys at = ap (λ (n : ℕ). sets l n ys) (sym (add-zero at))
-sets-append (x ∷ xs) l ys at =
-    sets-append xs (set l at x) ys (suc at) ∙ ap (λ (n : ℕ). sets (sets (set l at x) (suc at) xs) n ys) (suc-add at (length xs) ∙ sym (add-suc at (length xs)))
+use Rattle.printout.specs.Internal.Writing.{Laid, LaidWord, LaidWords, LaidLine, WrittenLine, ended, blanked}
 
 -- nothing written
 pub laid-none : (at : ℕ) (l : List ℕ) → Laid [] at l l at
@@ -33,7 +37,7 @@ laid-same {k = k} {l} {at} {p} {q} f e h = rw (← e, ← h) f
 -- what two calls write one after the other
 pub laid-then : {x y k l m : List ℕ} {at p q : ℕ} → Laid x at k l p → Laid y p l m q → Laid (x ++ y) at k m q
 laid-then {x} {y} {k} {l} {m} {at} {p} {q} f g = record {
-  stored = g .stored ∙ ap (λ (z : List ℕ). sets z p y) (f .stored) ∙ ap (λ (n : ℕ). sets (sets k at x) n y) (f .ends) ∙ sym (sets-append x k y at);
+  stored = g .stored ∙ ap (λ (z : List ℕ). sets z p y) (f .stored) ∙ ap (λ (n : ℕ). sets (sets k at x) n y) (f .ends) ∙ sym (sets-append k at x y);
   ends = omega (arith, f .ends, g .ends, length-append x y);
 }
 
@@ -102,8 +106,8 @@ unfolding blanked
 words-last {w} f = record { laid = rw (append-nil (ended w 32)) (f .laid) }
 
 -- a line that was laid from the buffer's start on: its bytes, then the buffer's rest
-pub printed : {ws : List (List ℕ)} {k l : List ℕ} {q : ℕ} → q ≤ 48 → 48 ≤ length k → LaidLine ws 0 k l q → Printed (lineOf ws) k l q
-printed {ws} {k} {l} {q} h b f =
+pub line-written : {ws : List (List ℕ)} {k l : List ℕ} {q : ℕ} → q ≤ lineSize → lineSize ≤ length k → LaidLine ws 0 k l q → WrittenLine (lineOf ws) k l q
+line-written {ws} {k} {l} {q} h b f =
     let e : 0 + length (lineOf ws) ≡ length (lineOf ws) = omega arith in
     record {
       counted = f .laid .ends ∙ e;
@@ -112,5 +116,5 @@ printed {ws} {k} {l} {q} h b f =
     }
 
 -- the same line, said another way
-pub printed-same : {x y k l : List ℕ} {q : ℕ} → x ≡ y → Printed x k l q → Printed y k l q
-printed-same e f = rw (← e) f
+pub line-written-same : {x y k l : List ℕ} {q : ℕ} → x ≡ y → WrittenLine x k l q → WrittenLine y k l q
+line-written-same e f = rw (← e) f

@@ -1,10 +1,11 @@
 -- Every line of the printout, in order (document 01, "Line and bench").
-use Prim.Native.Nat.{ℕ, suc, _+_, _-_, _*_}
+use Prim.Native.Nat.{ℕ, suc, _+_, _-_}
 use Prim.Native.String.{String}
 use mathlib.Core.List.{List, [], _∷_, _++_}
 use lib.ListN.{length, getD, take, drop}
 use Rattle.program.specs.Field.{byteAt}
 use Rattle.program.specs.Layout.{Program, CodeSection}
+use Rattle.program.specs.Limits.{instructionSize, recordOffset}
 use Rattle.program.specs.Refusal.{numberOf, detailOf}
 use Rattle.program.specs.Variable.{Variable}
 use Rattle.program.specs.declared.instruction.Instruction.{Instruction}
@@ -40,7 +41,7 @@ kindWords Open = ascii "open" ∷ []
 -- `00 00 00000005 v0 guarded k0 5`. "A variable: number, kind, initial value"
 unfoldable pub variableLine : List ℕ → (v : ℕ) → Variable → List ℕ
 variableLine s v x =
-    let at = 5 + 6 * v in
+    let at = recordOffset v in
     lineOf (raw s at 1 ∷ raw s (at + 1) 1 ∷ raw s (at + 2) 4 ∷ numbered "v" v ∷ kindWords (x .kind) ++ decimal (x .initial) ∷ [])
 
 unfoldable pub variableLines : List ℕ → (v : ℕ) → List Variable → List (List ℕ)
@@ -74,22 +75,22 @@ instructionLine s at place i byte =
 unfoldable pub codeLines : List ℕ → (at place : ℕ) → List Instruction → (report : List ℕ) → List (List ℕ)
 codeLines s at place [] report = []
 codeLines s at place (i ∷ is) report =
-    instructionLine s at place i (getD report 0 0) ∷ codeLines s (at + 4) (suc place) is (drop 1 report)
+    instructionLine s at place i (getD report 0 0) ∷ codeLines s (at + instructionSize) (suc place) is (drop 1 report)
 
--- `000C thread 0 code 3`, then the code. A thread's report is its code's bytes and one for its whole
-unfoldable pub threadLines : List ℕ → (t : ℕ) → List CodeSection → (report : List ℕ) → List (List ℕ)
-threadLines s t [] report = []
-threadLines s t (c ∷ cs) report =
-    lineOf (raw s (c .start - 2) 2 ∷ ascii "thread" ∷ decimal t ∷ ascii "code" ∷ decimal (length (c .code)) ∷ [])
-    ∷ codeLines s (c .start) 0 (c .code) report
-    ++ threadLines s (suc t) cs (drop (length (c .code) + 1) report)
+-- `000C thread 0 code 3`, then the code; code c is thread c's. Its report is its code's bytes and one for its whole
+unfoldable pub sectionLines : List ℕ → (c : ℕ) → List CodeSection → (report : List ℕ) → List (List ℕ)
+sectionLines s c [] report = []
+sectionLines s c (x ∷ xs) report =
+    lineOf (raw s (x .start - 2) 2 ∷ ascii "thread" ∷ decimal c ∷ ascii "code" ∷ decimal (length (x .code)) ∷ [])
+    ∷ codeLines s (x .start) 0 (x .code) report
+    ++ sectionLines s (suc c) xs (drop (length (x .code) + 1) report)
 
 -- `thread 0 A`. "After all code, one line for each thread's whole"
-unfoldable pub wholeLines : (t : ℕ) → List CodeSection → (report : List ℕ) → List (List ℕ)
-wholeLines t [] report = []
-wholeLines t (c ∷ cs) report =
-    lineOf (ascii "thread" ∷ decimal t ∷ letter (getD report (length (c .code)) 0) ∷ [])
-    ∷ wholeLines (suc t) cs (drop (length (c .code) + 1) report)
+unfoldable pub wholeLines : (c : ℕ) → List CodeSection → (report : List ℕ) → List (List ℕ)
+wholeLines c [] report = []
+wholeLines c (x ∷ xs) report =
+    lineOf (ascii "thread" ∷ decimal c ∷ letter (getD report (length (x .code)) 0) ∷ [])
+    ∷ wholeLines (suc c) xs (drop (length (x .code) + 1) report)
 
 -- all lines of an accepted file with its program and report
 unfoldable pub lines : List ℕ → Program → (report : List ℕ) → List (List ℕ)
@@ -99,8 +100,8 @@ lines s p report =
     ∷ headLine s 2 "threads"
     ∷ lineOf (raw s 3 2 ∷ ascii "variables" ∷ decimal (length (p .variables)) ∷ [])
     ∷ variableLines s 0 (p .variables)
-    ++ threadLines s 0 (p .threads) report
-    ++ wholeLines 0 (p .threads) report
+    ++ sectionLines s 0 (p .codes) report
+    ++ wholeLines 0 (p .codes) report
 
 -- "`refused N at D` and a newline"
 unfoldable pub refusalLine : Refusal → List ℕ

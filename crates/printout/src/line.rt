@@ -18,15 +18,16 @@ ghost use mathlib.Core.List.{[], _∷_, _++_};
 ghost use Prim.Native.Nat.{_+_, _≤_, _<_};
 ghost use lib.ListN.{length};
 ghost use Rattle.program.specs.Field.{byteAt};
+ghost use Rattle.program.specs.Limits.{variableSize, instructionSize, recordsStart, lineSize};
 ghost use Rattle.printout.specs.Text.{ascii, decimal, lineOf};
 ghost use Rattle.printout.specs.Line.{raw, letter, numbered, kindWords, instructionLine, refusalLine};
-ghost use Rattle.printout.specs.Item.{variablesLine, threadLine};
-ghost use Rattle.printout.specs.Writing.{LaidWords, Printed};
+ghost use Rattle.printout.specs.Internal.Item.{variablesLine, threadLine};
+ghost use Rattle.printout.specs.Internal.Writing.{LaidWords, WrittenLine};
 
 // A field of the head: its byte, its name, its value.
 pub fn head_line(file: &[u8], at: usize, name: &[u8], out: &mut [u8]) -> usize
-    requires { ⌜ (at < length (now file)) × (length (now name) ≤ 9) × (48 ≤ length (now out)) ⌝ }
-    ensures { λ r. ⌜ Printed (lineOf (raw (now (file .entry)) at 1 ∷ now (name .entry) ∷ decimal (byteAt (now (file .entry)) at) ∷ [])) (now (out .entry)) (now (out .exit)) r ⌝ }
+    requires { ⌜ (at < length (now file)) × (length (now name) ≤ 9) × (lineSize ≤ length (now out)) ⌝ }
+    ensures { λ r. ⌜ WrittenLine (lineOf (raw (now (file .entry)) at 1 ∷ now (name .entry) ∷ decimal (byteAt (now (file .entry)) at) ∷ [])) (now (out .entry)) (now (out .exit)) r ⌝ }
 {
     let value = file[at];
     let next = raw_at(out, 0, file, at, 1, b' ');
@@ -36,8 +37,8 @@ pub fn head_line(file: &[u8], at: usize, name: &[u8], out: &mut [u8]) -> usize
 
 // The variable section's length field and the number of variables.
 pub fn variables_line(file: &[u8], variables: usize, out: &mut [u8]) -> usize
-    requires { ⌜ (5 ≤ length (now file)) × (variables < 10000) × (48 ≤ length (now out)) ⌝ }
-    ensures { λ r. ⌜ Printed (variablesLine (now (file .entry)) variables) (now (out .entry)) (now (out .exit)) r ⌝ }
+    requires { ⌜ (recordsStart ≤ length (now file)) × (variables < 10000) × (lineSize ≤ length (now out)) ⌝ }
+    ensures { λ r. ⌜ WrittenLine (variablesLine (now (file .entry)) variables) (now (out .entry)) (now (out .exit)) r ⌝ }
 {
     let next = raw_at(out, 0, file, 3, 2, b' ');
     let next = copy_at(out, next, b"variables", b' ');
@@ -46,7 +47,7 @@ pub fn variables_line(file: &[u8], variables: usize, out: &mut [u8]) -> usize
 
 // The raw fields of the variable record at an offset.
 fn record_fields(file: &[u8], at: usize, out: &mut [u8]) -> usize
-    requires { ⌜ (at + 6 ≤ length (now file)) × (15 ≤ length (now out)) ⌝ }
+    requires { ⌜ (at + variableSize ≤ length (now file)) × (15 ≤ length (now out)) ⌝ }
     ensures { λ r. ⌜ LaidWords (raw (now (file .entry)) at 1 ∷ raw (now (file .entry)) (at + 1) 1 ∷ raw (now (file .entry)) (at + 2) 4 ∷ []) 0 (now (out .entry)) (now (out .exit)) r ⌝ }
     ensures { λ r. ⌜ r ≡ 15 ⌝ }
 {
@@ -64,8 +65,8 @@ pub fn variable_line(
     initial: u32,
     out: &mut [u8],
 ) -> usize
-    requires { ⌜ (at + 6 ≤ length (now file)) × (48 ≤ length (now out)) ⌝ }
-    ensures { λ r. ⌜ Printed (lineOf (raw (now (file .entry)) at 1 ∷ raw (now (file .entry)) (at + 1) 1 ∷ raw (now (file .entry)) (at + 2) 4 ∷ numbered "v" v ∷ kindWords kind ++ decimal initial ∷ [])) (now (out .entry)) (now (out .exit)) r ⌝ }
+    requires { ⌜ (at + variableSize ≤ length (now file)) × (lineSize ≤ length (now out)) ⌝ }
+    ensures { λ r. ⌜ WrittenLine (lineOf (raw (now (file .entry)) at 1 ∷ raw (now (file .entry)) (at + 1) 1 ∷ raw (now (file .entry)) (at + 2) 4 ∷ numbered "v" v ∷ kindWords kind ++ decimal initial ∷ [])) (now (out .entry)) (now (out .exit)) r ⌝ }
 {
     let next = record_fields(file, at, out);
     let next = lettered_at(out, next, b'v', v, b' ');
@@ -75,8 +76,8 @@ pub fn variable_line(
 
 // Thread t: its code section's length field at an offset, and the number of its instructions.
 pub fn thread_line(file: &[u8], at: usize, t: usize, count: usize, out: &mut [u8]) -> usize
-    requires { ⌜ (at + 2 ≤ length (now file)) × (t < 10000) × (count < 10000) × (48 ≤ length (now out)) ⌝ }
-    ensures { λ r. ⌜ Printed (threadLine (now (file .entry)) at t count) (now (out .entry)) (now (out .exit)) r ⌝ }
+    requires { ⌜ (at + 2 ≤ length (now file)) × (t < 10000) × (count < 10000) × (lineSize ≤ length (now out)) ⌝ }
+    ensures { λ r. ⌜ WrittenLine (threadLine (now (file .entry)) at t count) (now (out .entry)) (now (out .exit)) r ⌝ }
 {
     let next = raw_at(out, 0, file, at, 2, b' ');
     let next = copy_at(out, next, b"thread", b' ');
@@ -87,7 +88,7 @@ pub fn thread_line(file: &[u8], at: usize, t: usize, count: usize, out: &mut [u8
 
 // The raw fields of the instruction at an offset.
 fn instruction_fields(file: &[u8], at: usize, out: &mut [u8]) -> usize
-    requires { ⌜ (at + 4 ≤ length (now file)) × (12 ≤ length (now out)) ⌝ }
+    requires { ⌜ (at + instructionSize ≤ length (now file)) × (12 ≤ length (now out)) ⌝ }
     ensures { λ r. ⌜ LaidWords (raw (now (file .entry)) at 1 ∷ raw (now (file .entry)) (at + 1) 1 ∷ raw (now (file .entry)) (at + 2) 1 ∷ raw (now (file .entry)) (at + 3) 1 ∷ []) 0 (now (out .entry)) (now (out .exit)) r ⌝ }
     ensures { λ r. ⌜ r ≡ 12 ⌝ }
 {
@@ -106,8 +107,8 @@ pub fn instruction_line(
     byte: u8,
     out: &mut [u8],
 ) -> usize
-    requires { ⌜ (at + 4 ≤ length (now file)) × (place < 10000) × (48 ≤ length (now out)) ⌝ }
-    ensures { λ r. ⌜ Printed (instructionLine (now (file .entry)) at place i byte) (now (out .entry)) (now (out .exit)) r ⌝ }
+    requires { ⌜ (at + instructionSize ≤ length (now file)) × (place < 10000) × (lineSize ≤ length (now out)) ⌝ }
+    ensures { λ r. ⌜ WrittenLine (instructionLine (now (file .entry)) at place i byte) (now (out .entry)) (now (out .exit)) r ⌝ }
 {
     let next = instruction_fields(file, at, out);
     let next = short_at(out, next, place, b' ');
@@ -117,8 +118,8 @@ pub fn instruction_line(
 
 // Thread t's whole, with its report byte.
 pub fn whole_line(t: usize, byte: u8, out: &mut [u8]) -> usize
-    requires { ⌜ (t < 10000) × (48 ≤ length (now out)) ⌝ }
-    ensures { λ r. ⌜ Printed (lineOf (ascii "thread" ∷ decimal t ∷ letter byte ∷ [])) (now (out .entry)) (now (out .exit)) r ⌝ }
+    requires { ⌜ (t < 10000) × (lineSize ≤ length (now out)) ⌝ }
+    ensures { λ r. ⌜ WrittenLine (lineOf (ascii "thread" ∷ decimal t ∷ letter byte ∷ [])) (now (out .entry)) (now (out .exit)) r ⌝ }
 {
     let next = copy_at(out, 0, b"thread", b' ');
     let next = short_at(out, next, t, b' ');
@@ -127,8 +128,8 @@ pub fn whole_line(t: usize, byte: u8, out: &mut [u8]) -> usize
 
 // Why a file is refused.
 pub fn refusal_line(r: Refusal, out: &mut [u8]) -> usize
-    requires { ⌜ 48 ≤ length (now out) ⌝ }
-    ensures { λ size. ⌜ Printed (refusalLine r) (now (out .entry)) (now (out .exit)) size ⌝ }
+    requires { ⌜ lineSize ≤ length (now out) ⌝ }
+    ensures { λ size. ⌜ WrittenLine (refusalLine r) (now (out .entry)) (now (out .exit)) size ⌝ }
 {
     let n = number(r);
     let d = detail(r);

@@ -9,19 +9,24 @@ use crate::line::whole_line;
 use program::instruction::valid_instruction_at;
 use program::layout::Layout;
 use program::layout::code_count;
+use program::limits::INSTRUCTION_SIZE;
+use program::limits::RECORDS_START;
+use program::limits::VARIABLE_SIZE;
 use program::variable::initial_at;
 use program::variable::kind_at;
 ghost use mathlib.Core.Path.{_≡_};
 ghost use mathlib.Core.List.{List, []};
-ghost use Prim.Native.Nat.{ℕ, _+_, _*_, _≤_, _<_};
+ghost use Prim.Native.Nat.{ℕ, _+_, _≤_, _<_};
 ghost use lib.ListN.{length, getD};
+ghost use Rattle.program.specs.Answer.{fine};
+ghost use Rattle.program.specs.Limits.{threadLimit, variableLimit, recordsStart, recordOffset, lineSize};
+ghost use Rattle.program.specs.Internal.Bounds.{programLimit, lineCount};
 ghost use Rattle.program.specs.Layout.{programOf, reading};
 ghost use Rattle.program.specs.Variable.{variableAt};
-ghost use Rattle.program.specs.Sound.{SoundFile};
-ghost use Rattle.program.specs.declared.layout.Reading.the-variants.{Sound};
+ghost use Rattle.program.specs.Internal.Sound.{SoundFile};
 ghost use Rattle.printout.specs.Line.{lines, variableLine, wholeLines};
-ghost use Rattle.printout.specs.Writing.{Printed};
-ghost use Rattle.printout.specs.Item.{headLines, itemLine, itemLines, ItemGood, wholeLine};
+ghost use Rattle.printout.specs.Internal.Writing.{WrittenLine};
+ghost use Rattle.printout.specs.Internal.Item.{headLines, itemLine, itemLines, ItemGood, wholeLine};
 
 // What a line after those of the variables shows.
 pub enum Item {
@@ -35,16 +40,16 @@ pub enum Item {
 
 // How many lines a sound file's printout has.
 pub fn line_count(l: Layout) -> usize
-    requires { ⌜ (l .threads ≤ 8) × (l .variables ≤ 64) × (l .instructions ≤ 8192) ⌝ }
-    ensures { λ r. ⌜ r ≡ 4 + l .variables + l .threads + l .instructions + l .threads ⌝ }
+    requires { ⌜ (l .threads ≤ threadLimit) × (l .variables ≤ variableLimit) × (l .instructions ≤ programLimit) ⌝ }
+    ensures { λ r. ⌜ r ≡ lineCount (l .variables) (l .threads) (l .instructions) ⌝ }
 {
     4 + l.variables + l.threads + l.instructions + l.threads
 }
 
 // One of the head's four lines.
 fn print_head(file: &[u8], variables: usize, i: usize, out: &mut [u8]) -> usize
-    requires { ⌜ (5 ≤ length (now file)) × (variables ≤ 64) × (i < 4) × (48 ≤ length (now out)) ⌝ }
-    ensures { λ r. ⌜ Printed (getD (headLines (now (file .entry)) variables) i []) (now (out .entry)) (now (out .exit)) r ⌝ }
+    requires { ⌜ (recordsStart ≤ length (now file)) × (variables ≤ variableLimit) × (i < 4) × (lineSize ≤ length (now out)) ⌝ }
+    ensures { λ r. ⌜ WrittenLine (getD (headLines (now (file .entry)) variables) i []) (now (out .entry)) (now (out .exit)) r ⌝ }
 {
     match i {
         0 => head_line(file, 0, b"version", out),
@@ -61,7 +66,7 @@ fn item_at(file: &[u8], l: Layout, i: usize) -> Item
     ensures { λ r. ⌜ ItemGood (now (file .entry)) l r ⌝ }
 {
     let mut t = 0;
-    let mut at = 5 + 6 * l.variables;
+    let mut at = RECORDS_START + VARIABLE_SIZE * l.variables;
     let mut from = 0;
     while t < l.threads {
         let count = code_count(file, at);
@@ -71,10 +76,10 @@ fn item_at(file: &[u8], l: Layout, i: usize) -> Item
         }
         if passed <= count {
             let place = passed - 1;
-            return Item::Code(at + 2 + 4 * place, place, i - 1);
+            return Item::Code(at + 2 + INSTRUCTION_SIZE * place, place, i - 1);
         }
         from = from + count + 1;
-        at = at + 2 + 4 * count;
+        at = at + 2 + INSTRUCTION_SIZE * count;
         t += 1;
     }
     Item::Whole(i - from)
@@ -83,11 +88,11 @@ fn item_at(file: &[u8], l: Layout, i: usize) -> Item
 // The index of the report byte of thread t's whole.
 fn whole_byte(file: &[u8], l: Layout, t: usize) -> usize
     requires { ⌜ SoundFile (now file) l × (t < l .threads) ⌝ }
-    ensures { λ r. ⌜ ((report : List ℕ) → wholeLine t r report ≡ getD (wholeLines 0 (programOf (now (file .entry)) l .threads) report) t []) ⌝ }
+    ensures { λ r. ⌜ ((report : List ℕ) → wholeLine t r report ≡ getD (wholeLines 0 (programOf (now (file .entry)) l .codes) report) t []) ⌝ }
     ensures { λ r. ⌜ r < l .instructions + l .threads ⌝ }
 {
     let mut u = 0;
-    let mut at = 5 + 6 * l.variables;
+    let mut at = RECORDS_START + VARIABLE_SIZE * l.variables;
     let mut from = 0;
     while u < l.threads {
         let count = code_count(file, at);
@@ -95,7 +100,7 @@ fn whole_byte(file: &[u8], l: Layout, t: usize) -> usize
             return from + count;
         }
         from = from + count + 1;
-        at = at + 2 + 4 * count;
+        at = at + 2 + INSTRUCTION_SIZE * count;
         u += 1;
     }
     from
@@ -103,10 +108,10 @@ fn whole_byte(file: &[u8], l: Layout, t: usize) -> usize
 
 // Variable v's line.
 fn print_variable(file: &[u8], l: Layout, v: usize, out: &mut [u8]) -> usize
-    requires { ⌜ SoundFile (now file) l × (v < l .variables) × (48 ≤ length (now out)) ⌝ }
-    ensures { λ r. ⌜ Printed (variableLine (now (file .entry)) v (variableAt (l .locks) (l .threads) (now (file .entry)) (5 + 6 * v))) (now (out .entry)) (now (out .exit)) r ⌝ }
+    requires { ⌜ SoundFile (now file) l × (v < l .variables) × (lineSize ≤ length (now out)) ⌝ }
+    ensures { λ r. ⌜ WrittenLine (variableLine (now (file .entry)) v (variableAt (l .locks) (l .threads) (now (file .entry)) (recordOffset v))) (now (out .entry)) (now (out .exit)) r ⌝ }
 {
-    let at = 5 + 6 * v;
+    let at = RECORDS_START + VARIABLE_SIZE * v;
     let kind = kind_at(file, at, l.locks, l.threads);
     let initial = initial_at(file, at);
     variable_line(file, at, v as u8, kind, initial, out)
@@ -114,8 +119,8 @@ fn print_variable(file: &[u8], l: Layout, v: usize, out: &mut [u8]) -> usize
 
 // A line after those of the variables.
 fn print_item(file: &[u8], l: Layout, report: &[u8], item: Item, out: &mut [u8]) -> usize
-    requires { ⌜ SoundFile (now file) l × (l .instructions + l .threads ≤ length (now report)) × ItemGood (now file) l item × (48 ≤ length (now out)) ⌝ }
-    ensures { λ r. ⌜ Printed (itemLine (now (file .entry)) l (now (report .entry)) item) (now (out .entry)) (now (out .exit)) r ⌝ }
+    requires { ⌜ SoundFile (now file) l × (l .instructions + l .threads ≤ length (now report)) × ItemGood (now file) l item × (lineSize ≤ length (now out)) ⌝ }
+    ensures { λ r. ⌜ WrittenLine (itemLine (now (file .entry)) l (now (report .entry)) item) (now (out .entry)) (now (out .exit)) r ⌝ }
 {
     match item {
         Item::Thread(t, at) => thread_line(file, at, t, code_count(file, at), out),
@@ -132,8 +137,8 @@ fn print_item(file: &[u8], l: Layout, report: &[u8], item: Item, out: &mut [u8])
 
 // Line i of the printout, for a buffer of 48 bytes or more; answers the line's length.
 pub fn write_line(file: &[u8], l: Layout, report: &[u8], i: usize, out: &mut [u8]) -> usize
-    requires { ⌜ (reading (now file) ≡ Sound l) × (l .instructions + l .threads ≤ length (now report)) × (i < 4 + l .variables + l .threads + l .instructions + l .threads) × (48 ≤ length (now out)) ⌝ }
-    ensures { λ r. ⌜ Printed (getD (lines (now (file .entry)) (programOf (now (file .entry)) l) (now (report .entry))) i []) (now (out .entry)) (now (out .exit)) r ⌝ }
+    requires { ⌜ (reading (now file) ≡ fine l) × (l .instructions + l .threads ≤ length (now report)) × (i < lineCount (l .variables) (l .threads) (l .instructions)) × (lineSize ≤ length (now out)) ⌝ }
+    ensures { λ r. ⌜ WrittenLine (getD (lines (now (file .entry)) (programOf (now (file .entry)) l) (now (report .entry))) i []) (now (out .entry)) (now (out .exit)) r ⌝ }
 {
     if i < 4 {
         return print_head(file, l.variables, i, out);

@@ -5,7 +5,7 @@ ghost use Prim.Native.Nat.{_+_, _*_, _≤_, _<_};
 ghost use lib.ListN.{length, take, drop};
 ghost use Rattle.printout.specs.Text.{hexDigit, hex, decimal};
 ghost use Rattle.printout.specs.Line.{raw, letter};
-ghost use Rattle.printout.specs.Writing.{Laid, LaidWord, lettered};
+ghost use Rattle.printout.specs.Internal.Writing.{Laid, LaidWord, lettered};
 
 // A fixed text.
 pub fn copy_at(out: &mut [u8], at: usize, word: &[u8], end: u8) -> usize

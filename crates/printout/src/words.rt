@@ -10,7 +10,7 @@ ghost use Prim.Native.Nat.{_+_, _≤_};
 ghost use lib.ListN.{length};
 ghost use Rattle.printout.specs.Text.{decimal};
 ghost use Rattle.printout.specs.Line.{kindWords, instructionWords};
-ghost use Rattle.printout.specs.Writing.{LaidWords, lettered, formWords};
+ghost use Rattle.printout.specs.Internal.Writing.{LaidWords, lettered, formWords};
 
 // A name and a number.
 fn name_number(out: &mut [u8], at: usize, name: &[u8], n: u16) -> usize

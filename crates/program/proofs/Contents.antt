@@ -1,7 +1,7 @@
 -- A file's contents by index. Assumes nothing.
 --     length-instructions, getD-instructions   the instructions of a code section
 --     length-variables, getD-variables         the variable records
---     length-threads                           the code sections
+--     length-codes                           the code sections
 use Prim.Native.Nat.{ℕ, zero, suc, _+_, _*_, _/_, _<_}
 use mathlib.Core.Path.{_≡_, refl, ap, _∙_}
 use mathlib.Core.List.{List, [], _∷_}
@@ -9,9 +9,9 @@ use lib.ListN.{length, getD}
 use native.Mathlib.Nat.{mul-suc}
 use native.Mathlib.Omega.{arith}
 use Rattle.program.specs.Field.{pairAt}
-use Rattle.program.specs.Instruction.{decodeAt, instructionOf}
+use Rattle.program.specs.Instruction.{decodeAt, decodedInstruction}
 use Rattle.program.specs.Variable.{Variable, variableAt}
-use Rattle.program.specs.Layout.{instructionsAt, variablesAt, threadsAt}
+use Rattle.program.specs.Layout.{instructionsAt, variablesAt, codesAt}
 use Rattle.program.specs.declared.instruction.Instruction.the-variants.{End}
 
 -- n items from an offset on, `step` bytes apart: what both kinds of sections are
@@ -31,7 +31,7 @@ getD-items f step (suc n) at (suc i) d h =
 
 module _ (locks variables : ℕ) (s : List ℕ) where
   instructions-items : (n at : ℕ)
-      → instructionsAt locks variables s n at ≡ items (λ p. instructionOf (decodeAt locks variables s p)) 4 n at
+      → instructionsAt locks variables s n at ≡ items (λ p. decodedInstruction (decodeAt locks variables s p)) 4 n at
   unfolding instructionsAt
   instructions-items zero at = refl
   instructions-items (suc n) at = rw (instructions-items n (at + 4))
@@ -42,15 +42,15 @@ module _ (locks variables : ℕ) (s : List ℕ) where
 
   -- the instruction at a place
   pub getD-instructions : (n at i : ℕ) → i < n
-      → getD (instructionsAt locks variables s n at) i End ≡ instructionOf (decodeAt locks variables s (at + 4 * i))
+      → getD (instructionsAt locks variables s n at) i End ≡ decodedInstruction (decodeAt locks variables s (at + 4 * i))
   getD-instructions n at i h =
-      rw (instructions-items n at) (getD-items (λ p. instructionOf (decodeAt locks variables s p)) 4 n at i End h)
+      rw (instructions-items n at) (getD-items (λ p. decodedInstruction (decodeAt locks variables s p)) 4 n at i End h)
 
   -- a code section for each thread
-  pub length-threads : (n at : ℕ) → length (threadsAt locks variables s n at) ≡ n
-  unfolding threadsAt
-  length-threads zero at = refl
-  length-threads (suc n) at = ap suc (length-threads n (at + 2 + 4 * (pairAt s at / 4)))
+  pub length-codes : (n at : ℕ) → length (codesAt locks variables s n at) ≡ n
+  unfolding codesAt
+  length-codes zero at = refl
+  length-codes (suc n) at = ap suc (length-codes n (at + 2 + 4 * (pairAt s at / 4)))
 
 module _ (locks threads : ℕ) (s : List ℕ) where
   variables-items : (n at : ℕ) → variablesAt locks threads s n at ≡ items (variableAt locks threads s) 6 n at

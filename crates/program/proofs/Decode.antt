@@ -10,9 +10,10 @@ use lib.Dec.{ltb, eqb}
 use borrow.Author.Tests.{ltb-true, eqb-true}
 use Rattle.program.specs.Choice.{choose}
 use Rattle.program.specs.Field.{byteAt}
-use Rattle.program.specs.Instruction.{Decoded, Valid, Invalid, decode, decodeAt, instructionOf, isRegister, isZero, isValid}
-use Rattle.program.specs.Row.{rowNumber, rowInstruction}
-use Rattle.program.specs.Sound.{FieldsGood}
+use Rattle.program.specs.Instruction.{Decoded, Valid, Invalid, decode, decodeAt, decodedInstruction, isRegister, isZero, isValid}
+use Rattle.program.specs.Limits.{registerCount}
+use Rattle.program.specs.Internal.RowNumber.{rowNumber, rowInstruction}
+use Rattle.program.specs.Internal.Sound.{FieldsGood}
 use Rattle.program.specs.declared.instruction.Instruction.{Instruction}
 use Rattle.program.specs.declared.instruction.Instruction.the-variants.{Set, Copy, Add, Sub, Less, Read, Write, Take, Give, If, Else, While, Again, Atomic, End}
 
@@ -23,16 +24,16 @@ all-true x y z e =
     let g = and-eq-true-iff x y .0 (h .0) in
     (g .0, g .1, h .1)
 
-three-registers : (a b c : ℕ) → (isRegister a && isRegister b && isRegister c) ≡ true → (a < 8) × (b < 8) × (c < 8)
+three-registers : (a b c : ℕ) → (isRegister a && isRegister b && isRegister c) ≡ true → (a < registerCount) × (b < registerCount) × (c < registerCount)
 three-registers a b c e =
     let h = all-true (isRegister a) (isRegister b) (isRegister c) e in
-    (ltb-true a 8 (h .0), ltb-true b 8 (h .1), ltb-true c 8 (h .2))
+    (ltb-true a registerCount (h .0), ltb-true b registerCount (h .1), ltb-true c registerCount (h .2))
 
 -- a register, and b below a bound: COPY (8), READ and WRITE (the number of variables)
-two-below : (n a b c : ℕ) → (isRegister a && ltb b n && isZero c) ≡ true → (a < 8) × (b < n)
+two-below : (n a b c : ℕ) → (isRegister a && ltb b n && isZero c) ≡ true → (a < registerCount) × (b < n)
 two-below n a b c e =
     let h = all-true (isRegister a) (ltb b n) (isZero c) e in
-    (ltb-true a 8 (h .0), ltb-true b n (h .1))
+    (ltb-true a registerCount (h .0), ltb-true b n (h .1))
 
 -- a lock
 one-below : (n a b c : ℕ) → (ltb a n && isZero b && isZero c) ≡ true → a < n
@@ -61,8 +62,8 @@ unfolding decode
 decoded-good locks variables op a b c =
     let P = FieldsGood locks variables in
     let n = b * 256 + c in
-    row-good P (eqb op 0x01) (isRegister a) (Set a n) _ (λ _. ltb-true a 8)
-    (row-good P (eqb op 0x02) (isRegister a && isRegister b && isZero c) (Copy a b) _ (λ _. two-below 8 a b c)
+    row-good P (eqb op 0x01) (isRegister a) (Set a n) _ (λ _. ltb-true a registerCount)
+    (row-good P (eqb op 0x02) (isRegister a && isRegister b && isZero c) (Copy a b) _ (λ _. two-below registerCount a b c)
     (row-good P (eqb op 0x03) (isRegister a && isRegister b && isRegister c) (Add a b c) _ (λ _. three-registers a b c)
     (row-good P (eqb op 0x04) (isRegister a && isRegister b && isRegister c) (Sub a b c) _ (λ _. three-registers a b c)
     (row-good P (eqb op 0x05) (isRegister a && isRegister b && isRegister c) (Less a b c) _ (λ _. three-registers a b c)
@@ -70,20 +71,20 @@ decoded-good locks variables op a b c =
     (row-good P (eqb op 0x11) (isRegister a && ltb b variables && isZero c) (Write a b) _ (λ _. two-below variables a b c)
     (row-good P (eqb op 0x20) (ltb a locks && isZero b && isZero c) (Take a) _ (λ _. one-below locks a b c)
     (row-good P (eqb op 0x21) (ltb a locks && isZero b && isZero c) (Give a) _ (λ _. one-below locks a b c)
-    (row-good P (eqb op 0x30) (isRegister a) (If a n) _ (λ _. ltb-true a 8)
+    (row-good P (eqb op 0x30) (isRegister a) (If a n) _ (λ _. ltb-true a registerCount)
     (row-good P (eqb op 0x31) (isZero a) (Else n) _ (λ _ _. tt)
-    (row-good P (eqb op 0x32) (isRegister a) (While a n) _ (λ _. ltb-true a 8)
+    (row-good P (eqb op 0x32) (isRegister a) (While a n) _ (λ _. ltb-true a registerCount)
     (row-good P (eqb op 0x33) (isZero a) (Again n) _ (λ _ _. tt)
     (row-good P (eqb op 0x34) (isZero a) (Atomic n) _ (λ _ _. tt)
     (row-good P (eqb op 0x35) (isZero a && isZero b && isZero c) End _ (λ _ _. tt)
     tt))))))))))))))
 
-instruction-of : (locks variables : ℕ) (d : Decoded) → IfValid (FieldsGood locks variables) d → FieldsGood locks variables (instructionOf d)
+instruction-of : (locks variables : ℕ) (d : Decoded) → IfValid (FieldsGood locks variables) d → FieldsGood locks variables (decodedInstruction d)
 instruction-of locks variables (Valid i) h = h
 instruction-of locks variables Invalid h = tt
 
 -- at any offset: invalid bytes give END, which has no fields
-pub instruction-fields : (locks variables : ℕ) (s : List ℕ) (at : ℕ) → FieldsGood locks variables (instructionOf (decodeAt locks variables s at))
+pub instruction-fields : (locks variables : ℕ) (s : List ℕ) (at : ℕ) → FieldsGood locks variables (decodedInstruction (decodeAt locks variables s at))
 unfolding decodeAt
 instruction-fields locks variables s at =
     instruction-of locks variables (decodeAt locks variables s at)
@@ -117,13 +118,13 @@ decoded-numbered locks variables op a b c =
     (row-good P (eqb op 0x35) (isZero a && isZero b && isZero c) End _ (λ e _. numbered-as op a b c 0x35 End e refl)
     tt))))))))))))))
 
-valid-is : (d : Decoded) (j : Instruction) → IfValid (λ (i : Instruction). i ≡ j) d → isValid d ≡ true → j ≡ instructionOf d
+valid-is : (d : Decoded) (j : Instruction) → IfValid (λ (i : Instruction). i ≡ j) d → isValid d ≡ true → j ≡ decodedInstruction d
 valid-is (Valid i) j h e = sym h
 valid-is Invalid j h e = cc
 
 -- so the number says the instruction of valid bytes
 pub row-numbered : (locks variables op a b c row : ℕ) → row ≡ rowNumber op → isValid (decode locks variables op a b c) ≡ true
-    → rowInstruction row a b c ≡ instructionOf (decode locks variables op a b c)
+    → rowInstruction row a b c ≡ decodedInstruction (decode locks variables op a b c)
 row-numbered locks variables op a b c row e valid =
     ap (λ (k : ℕ). rowInstruction k a b c) e
     ∙ valid-is (decode locks variables op a b c) (rowInstruction (rowNumber op) a b c) (decoded-numbered locks variables op a b c) valid

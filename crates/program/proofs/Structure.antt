@@ -1,9 +1,10 @@
 -- Nesting passes exactly for the flat writing of well formed code that is at most 16 deep (document 01, "The file": nesting; the scan
 -- of `Nesting` and the trees of `Code` say the same).
---
--- In order: that instructions write out one code at most; from the scan to the code (`nested-flat`); from the code to the scan
--- (`flat-nested`); both (`nested-exactly`).
 -- Assumes nothing.
+--     writes-structured   instructions write out one code at most
+--     nested-flat         from the scan to the code
+--     flat-nested         from the code to the scan
+--     nested-exactly      both
 use Prim.Native.Nat.{_≤_}
 use mathlib.Core.Path.{_≡_, sym, ap, _∙_, subst}
 use mathlib.Core.Logic.{_↔_}
@@ -12,7 +13,8 @@ use Rattle.program.specs.declared.found.Found.the-variants.{Nowhere}
 use Rattle.program.specs.declared.instruction.Instruction.{Instruction}
 use Rattle.program.specs.Nesting.{firstBroken}
 use Rattle.program.specs.Code.{Code, flat, structured}
-use Rattle.program.specs.WellFormed.{WellFormed, depth, Writes}
+use Rattle.program.specs.Limits.{entryLimit}
+use Rattle.program.specs.Internal.WellFormed.{WellFormed, depth, Writes}
 use Rattle.program.proofs.StructureFlat.{structured-flat}
 use Rattle.program.proofs.StructureParse.{read-nested}
 use Rattle.program.proofs.StructureScan.{scan-all}
@@ -28,7 +30,7 @@ nested-flat is h =
     subst (Writes is) (writes-structured w) w
 
 -- the scan passes the flat writing of well formed code that is at most 16 deep
-pub flat-nested : (c : Code) → WellFormed c → depth c ≤ 16 → firstBroken 0 (flat c) [] ≡ Nowhere
+pub flat-nested : (c : Code) → WellFormed c → depth c ≤ entryLimit → firstBroken 0 (flat c) [] ≡ Nowhere
 flat-nested = scan-all
 
 pub nested-exactly : (is : List Instruction) → (firstBroken 0 is [] ≡ Nowhere) ↔ Writes is (structured is)

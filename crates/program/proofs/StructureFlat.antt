@@ -1,5 +1,7 @@
--- The flat writing of structured code: its length (`length-flat`), and that reading it back gives the code (`structured-flat`).
--- Assumes nothing.
+-- The flat writing of structured code. Assumes nothing.
+--     length-flat                       it has as many instructions as the code's size says
+--     take-flat, getD-flat, drop-flat   the part that a distance measures off, its closer, and what is behind that
+--     structure-flat, structured-flat   read back, it gives the code
 use Prim.Native.Nat.{ℕ, zero, suc, _+_, _-_, _≤_}
 use native.Mathlib.Omega.{arith}
 use mathlib.Core.Path.{_≡_, refl, ap, _∙_}
@@ -11,7 +13,7 @@ use Rattle.program.specs.declared.instruction.Instruction.the-variants.{
 use Rattle.program.specs.declared.instruction.Form.the-variants.{Plain}
 use Rattle.program.specs.Instruction.{formOf}
 use Rattle.program.specs.Code.{Code, done, plain, choice, loop, block, size, flat, elseDistance, structure, structured}
-use Rattle.program.specs.WellFormed.{WellFormed}
+use Rattle.program.specs.Internal.WellFormed.{WellFormed}
 
 -- it has as many instructions as the code's size says
 pub length-flat : (c : Code) → length (flat c) ≡ size c

@@ -1,9 +1,11 @@
--- Every scan that passes reads well formed code (`read-nested`): by recursion on the number of instructions, since what follows a
--- body is no part of the pattern.
---
--- In order: an opener's body, up to the closer that its entry wants; the flat writing of a construct from that of its parts; a
--- construct from its parts; the recursion.
--- Assumes nothing.
+-- Every scan that passes reads well formed code: by recursion on the number of instructions, since what follows a body is no part of
+-- the pattern. Assumes nothing.
+--     body-if, body-else, body-while, body-atomic      an opener's body, up to the closer that its entry wants
+--     body-length                                      ... is no longer than what was read
+--     split-loop, split-block, split-choice            the flat writing of a construct from that of its parts
+--     join-plain, join-choice, join-loop, join-block   a construct from its parts
+--     parse-closes, parse-turn, parse, parsed-all      the recursion
+--     read-nested                                      instructions that the scan passes write out a code
 use Prim.Native.Nat.{ℕ, zero, suc, _+_, _≤_, _<_}
 use native.Mathlib.Omega.{arith}
 use mathlib.Core.Path.{_≡_, refl, sym, ap, _∙_, subst}
@@ -16,9 +18,10 @@ use Rattle.program.specs.declared.nesting.Entry.{Entry}
 use Rattle.program.specs.declared.nesting.Entry.the-variants as entry
 use Rattle.program.specs.Instruction.{formOf}
 use Rattle.program.specs.Code.{Code, done, plain, choice, loop, block, size, flat}
-use Rattle.program.specs.WellFormed.{WellFormed, depth, Writes, Passes, Closes, at-code-end, at-else, at-again, at-choice-end, at-block-end, Turn, closes, at-plain, at-if, at-while, at-atomic, Parsed, Body, Parser}
+use Rattle.program.specs.Limits.{entryLimit}
+use Rattle.program.specs.Internal.WellFormed.{WellFormed, depth, Writes, Passes, Closes, at-code-end, at-else, at-again, at-choice-end, at-block-end, ComesTo, closes, at-plain, at-if, at-while, at-atomic, Parsed, Body, Parser}
 use Rattle.program.proofs.StructureFlat.{length-flat}
-use Rattle.program.proofs.StructureTurn.{turn}
+use Rattle.program.proofs.StructureTurn.{comes-to}
 
 -- ---- the body of an opener
 
@@ -126,13 +129,13 @@ module _ {p : ℕ} {is : List Instruction} {es : List Entry} where
   }
 
 -- at a closer or the code's end nothing more is read
-parse-closes : {p : ℕ} {is : List Instruction} {es : List Entry} → length es ≤ 16 → Closes p is es → Parsed p is es
+parse-closes : {p : ℕ} {is : List Instruction} {es : List Entry} → length es ≤ entryLimit → Closes p is es → Parsed p is es
 unfolding flat size depth WellFormed
 parse-closes {p} {is} {es} m h = record
     { code = done; rest = is; split = refl; well-formed = tt; shallow = omega arith; stops = subst (λ (q : ℕ). Closes q is es) (omega arith) h }
 
 -- one construct, with a parser for what is shorter
-parse-turn : {k p : ℕ} {is : List Instruction} {es : List Entry} → Parser k → length is < suc k → length es ≤ 16 → Turn p is es → Parsed p is es
+parse-turn : {k p : ℕ} {is : List Instruction} {es : List Entry} → Parser k → length is < suc k → length es ≤ entryLimit → ComesTo p is es → Parsed p is es
 parse-turn parser l m (closes c) = parse-closes m c
 parse-turn {p} {es} parser l m (at-plain {i} {is = is} e h) = join-plain i e (parser (suc p) is es (omega arith) m h)
 parse-turn {p} {es} parser l m (at-if {r} {n} {is = is} s h) =
@@ -150,7 +153,7 @@ parse-turn {p} {es} parser l m (at-atomic {n} {is = is} s h) =
 -- whatever the number of instructions
 parse : (k : ℕ) → Parser k
 parse zero p is es l m h = absurd (omega arith)
-parse (suc k) p is es l m h = parse-turn (parse k) l m (turn p is es h)
+parse (suc k) p is es l m h = parse-turn (parse k) l m (comes-to p is es h)
 
 -- with no entry open it reads everything
 parsed-all : {is : List Instruction} → Parsed 0 is [] → (c : Code) × Writes is c

@@ -1,8 +1,12 @@
--- From structured code to the scan of `Nesting`: the scan passes over the flat writing of well formed code that is at most 16 deep.
---
--- In order: that no entry names a place that lies before all named ones; one turn of the scan for each form; the scan over the
--- flat writing of a code (`scan-flat`), and over the whole (`scan-all`).
--- Assumes nothing.
+-- From structured code to the scan of `Nesting`. Assumes nothing.
+--     unnamed-before                   no entry names a place that lies before all named ones
+--     scan-plain                       one turn of the scan at a plain instruction
+--     scan-if, scan-while, scan-atomic
+--                                      ... at an opener
+--     scan-else, scan-again, scan-choice-end, scan-block-end
+--                                      ... at a closer
+--     scan-flat                        the scan over the flat writing of a code
+--     scan-all                         it passes the flat writing of well formed code that is at most 16 deep
 use Prim.Native.Nat.{ℕ, suc, _+_, _≤_, _<_}
 use native.Mathlib.Omega.{arith}
 use mathlib.Core.Bool.{true}
@@ -19,7 +23,8 @@ use Rattle.program.specs.declared.nesting.Entry.the-variants as entry
 use Rattle.program.specs.Instruction.{formOf}
 use Rattle.program.specs.Nesting.{opened, named, unnamed, opening, passing, atElse, atAgain, atEnd, nest, atCodeEnd, firstBroken}
 use Rattle.program.specs.Code.{Code, done, plain, choice, loop, block, size, flat}
-use Rattle.program.specs.WellFormed.{WellFormed, depth, Beyond}
+use Rattle.program.specs.Limits.{entryLimit}
+use Rattle.program.specs.Internal.WellFormed.{WellFormed, depth, Beyond}
 
 -- ---- a turn of the scan
 
@@ -36,19 +41,19 @@ module _ (p : ℕ) (is : List Instruction) (es : List Entry) where
   scan-plain i e u = rw (e, u)
 
   -- an opener's entry opens
-  opens : (n : ℕ) (e : Entry) → unnamed p es ≡ true → 0 < n → length es < 16 → opening p n e es ≡ opened (e ∷ es)
+  opens : (n : ℕ) (e : Entry) → unnamed p es ≡ true → 0 < n → length es < entryLimit → opening p n e es ≡ opened (e ∷ es)
   unfolding opening
-  opens n e u d l = rw (u, ne-eqb n 0 (omega arith), lt-ltb (length es) 16 l)
+  opens n e u d l = rw (u, ne-eqb n 0 (omega arith), lt-ltb (length es) entryLimit l)
 
-  scan-if : (r n : ℕ) → unnamed p es ≡ true → 0 < n → length es < 16 → firstBroken p (If r n ∷ is) es ≡ firstBroken (suc p) is (entry.Then (p + n) ∷ es)
+  scan-if : (r n : ℕ) → unnamed p es ≡ true → 0 < n → length es < entryLimit → firstBroken p (If r n ∷ is) es ≡ firstBroken (suc p) is (entry.Then (p + n) ∷ es)
   unfolding firstBroken nest formOf
   scan-if r n u d l = rw (opens n (entry.Then (p + n)) u d l)
 
-  scan-while : (r n : ℕ) → unnamed p es ≡ true → 0 < n → length es < 16 → firstBroken p (While r n ∷ is) es ≡ firstBroken (suc p) is (entry.Loop (p + n) n ∷ es)
+  scan-while : (r n : ℕ) → unnamed p es ≡ true → 0 < n → length es < entryLimit → firstBroken p (While r n ∷ is) es ≡ firstBroken (suc p) is (entry.Loop (p + n) n ∷ es)
   unfolding firstBroken nest formOf
   scan-while r n u d l = rw (opens n (entry.Loop (p + n) n) u d l)
 
-  scan-atomic : (n : ℕ) → unnamed p es ≡ true → 0 < n → length es < 16 → firstBroken p (Atomic n ∷ is) es ≡ firstBroken (suc p) is (entry.Block (p + n) ∷ es)
+  scan-atomic : (n : ℕ) → unnamed p es ≡ true → 0 < n → length es < entryLimit → firstBroken p (Atomic n ∷ is) es ≡ firstBroken (suc p) is (entry.Block (p + n) ∷ es)
   unfolding firstBroken nest formOf
   scan-atomic n u d l = rw (opens n (entry.Block (p + n)) u d l)
 
@@ -72,7 +77,7 @@ module _ (p : ℕ) (is : List Instruction) (es : List Entry) where
 -- ---- the scan over the flat writing
 
 -- from place p to place q, behind the code, if no entry is to be closed before that
-scan-flat : (c : Code) (p q : ℕ) (rest : List Instruction) (es : List Entry) → p + size c ≡ q → WellFormed c → length es + depth c ≤ 16 → Beyond q es
+scan-flat : (c : Code) (p q : ℕ) (rest : List Instruction) (es : List Entry) → p + size c ≡ q → WellFormed c → length es + depth c ≤ entryLimit → Beyond q es
     → firstBroken p (flat c ++ rest) es ≡ firstBroken q rest es
 unfolding flat size depth WellFormed Beyond named
 scan-flat done p q rest es e w d b = ap (λ (p : ℕ). firstBroken p rest es) (omega arith)
@@ -104,6 +109,6 @@ scan-flat (block a c) p q rest es e w d b =
     ∙ scan-flat c (suc (p + n)) q rest es (omega arith) (w .1) (omega arith) b)
 
 -- the whole code, with no entry open
-pub scan-all : (c : Code) → WellFormed c → depth c ≤ 16 → firstBroken 0 (flat c) [] ≡ Nowhere
+pub scan-all : (c : Code) → WellFormed c → depth c ≤ entryLimit → firstBroken 0 (flat c) [] ≡ Nowhere
 unfolding firstBroken atCodeEnd Beyond
 scan-all c w d = ap (λ (is : List Instruction). firstBroken 0 is []) (sym (append-nil (flat c))) ∙ scan-flat c 0 (size c) [] [] (omega arith) w (omega arith) tt

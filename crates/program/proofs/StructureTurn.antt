@@ -1,9 +1,9 @@
--- What a scan that passes has come to (`turn`): each turn of `firstBroken` read backwards, from the answer to what was tested.
---
--- In order: a test that was passed; the turns at a plain instruction, an opener, each closer; all of them.
--- Assumes nothing.
+-- What a scan that passes has come to: each turn of `firstBroken` read backwards, from the answer to what was tested. Assumes nothing.
+--     tested                            a test that was passed
+--     turn-plain, turn-open             the turn at a plain instruction, at an opener
+--     turn-else, turn-again, turn-end   at each closer: of all entries one only passes
+--     comes-to                          all of them
 use Prim.Native.Nat.{ℕ, suc, _+_, _<_}
-use native.Mathlib.Omega.{arith}
 use mathlib.Core.Bool.{Bool, true, false, _&&_, not}
 use mathlib.Core.Path.{_≡_, refl}
 use mathlib.Core.List.{List, [], _∷_}
@@ -19,14 +19,16 @@ use Rattle.program.specs.declared.instruction.Form.the-variants.{Plain}
 use Rattle.program.specs.declared.nesting.Entry.{Entry}
 use Rattle.program.specs.declared.nesting.Entry.the-variants as entry
 use Rattle.program.specs.Instruction.{formOf}
+use Rattle.program.specs.Limits.{entryLimit}
 use Rattle.program.specs.Nesting.{broken, opened, unnamed, opening, passing, atElse, atAgain, atEnd, nest, atCodeEnd, goOn, firstBroken}
-use Rattle.program.specs.WellFormed.{Passes, Closes, at-code-end, at-else, at-again, at-choice-end, at-block-end, Turn, closes, at-plain, at-if, at-while, at-atomic}
+use Rattle.program.specs.Internal.WellFormed.{Passes, Closes, at-code-end, at-else, at-again, at-choice-end, at-block-end, ComesTo, closes, at-plain, at-if, at-while, at-atomic}
+use Rattle.program.proofs.Differ.{differ}
 
 -- ---- tests
 
 -- broken somewhere is not broken nowhere
 at≢nowhere : {A : Type 0} {p : ℕ} → At p ≡ Nowhere → A
-at≢nowhere e = let z : _≡_ {A = ℕ} 0 1 = cc in absurd (omega arith)
+at≢nowhere e = differ cc
 
 -- what was tested holds, and the rest passes
 tested : (p : ℕ) (b : Bool) (es : List Entry) (rest : List Entry → Found) → goOn p (choose b (opened es) broken) rest ≡ Nowhere → (b ≡ true) × (rest es ≡ Nowhere)
@@ -34,11 +36,11 @@ tested p true es rest h = (refl, h)
 tested p false es rest h = at≢nowhere h
 
 -- both of two tests hold
-pub and-left : (a b : Bool) → (a && b) ≡ true → a ≡ true
+and-left : (a b : Bool) → (a && b) ≡ true → a ≡ true
 and-left true b h = refl
 and-left false b h = h
 
-pub and-right : (a b : Bool) → (a && b) ≡ true → b ≡ true
+and-right : (a b : Bool) → (a && b) ≡ true → b ≡ true
 and-right true b h = h
 and-right false b h = cc
 
@@ -46,16 +48,16 @@ and-right false b h = cc
 
 module _ (p : ℕ) (is : List Instruction) (es : List Entry) where
   -- at a plain instruction
-  turn-plain : (i : Instruction) → formOf i ≡ Plain → Passes p (i ∷ is) es → Turn p (i ∷ is) es
+  turn-plain : (i : Instruction) → formOf i ≡ Plain → Passes p (i ∷ is) es → ComesTo p (i ∷ is) es
   unfolding firstBroken nest passing
   turn-plain i e h = at-plain e (tested p (unnamed p es) es (firstBroken (suc p) is) (rw e at h) .1)
 
   -- at an opener, whose entry is e
-  turn-open : (n : ℕ) (e : Entry) → goOn p (opening p n e es) (firstBroken (suc p) is) ≡ Nowhere → (length es < 16) × Passes (suc p) is (e ∷ es)
+  turn-open : (n : ℕ) (e : Entry) → goOn p (opening p n e es) (firstBroken (suc p) is) ≡ Nowhere → (length es < entryLimit) × Passes (suc p) is (e ∷ es)
   unfolding opening
   turn-open n e h =
-      let t = tested p (unnamed p es && not (eqb n 0) && ltb (length es) 16) (e ∷ es) (firstBroken (suc p) is) h in
-      (ltb-true (length es) 16 (and-right (unnamed p es && not (eqb n 0)) (ltb (length es) 16) (t .0)), t .1)
+      let t = tested p (unnamed p es && not (eqb n 0) && ltb (length es) entryLimit) (e ∷ es) (firstBroken (suc p) is) h in
+      (ltb-true (length es) entryLimit (and-right (unnamed p es && not (eqb n 0)) (ltb (length es) entryLimit) (t .0)), t .1)
 
 module _ (p : ℕ) (is : List Instruction) where
   -- at each closer: of all entries one only passes
@@ -96,22 +98,22 @@ module _ (p : ℕ) (is : List Instruction) where
       at-block-end e (rw (← e) at (t .1))
 
 -- what a scan that passes has come to
-pub turn : (p : ℕ) (is : List Instruction) (es : List Entry) → Passes p is es → Turn p is es
+pub comes-to : (p : ℕ) (is : List Instruction) (es : List Entry) → Passes p is es → ComesTo p is es
 unfolding firstBroken nest formOf atCodeEnd
-turn p [] [] h = closes at-code-end
-turn p [] (e ∷ es) h = at≢nowhere h
-turn p (Set a n ∷ is) es h = turn-plain p is es (Set a n) refl h
-turn p (Copy a b ∷ is) es h = turn-plain p is es (Copy a b) refl h
-turn p (Add a b c ∷ is) es h = turn-plain p is es (Add a b c) refl h
-turn p (Sub a b c ∷ is) es h = turn-plain p is es (Sub a b c) refl h
-turn p (Less a b c ∷ is) es h = turn-plain p is es (Less a b c) refl h
-turn p (Read a v ∷ is) es h = turn-plain p is es (Read a v) refl h
-turn p (Write a v ∷ is) es h = turn-plain p is es (Write a v) refl h
-turn p (Take k ∷ is) es h = turn-plain p is es (Take k) refl h
-turn p (Give k ∷ is) es h = turn-plain p is es (Give k) refl h
-turn p (If a n ∷ is) es h = let t = turn-open p is es n (entry.Then (p + n)) h in at-if (t .0) (t .1)
-turn p (Else n ∷ is) es h = closes (turn-else p is n es h)
-turn p (While a n ∷ is) es h = let t = turn-open p is es n (entry.Loop (p + n) n) h in at-while (t .0) (t .1)
-turn p (Again n ∷ is) es h = closes (turn-again p is n es h)
-turn p (Atomic n ∷ is) es h = let t = turn-open p is es n (entry.Block (p + n)) h in at-atomic (t .0) (t .1)
-turn p (End ∷ is) es h = closes (turn-end p is es h)
+comes-to p [] [] h = closes at-code-end
+comes-to p [] (e ∷ es) h = at≢nowhere h
+comes-to p (Set a n ∷ is) es h = turn-plain p is es (Set a n) refl h
+comes-to p (Copy a b ∷ is) es h = turn-plain p is es (Copy a b) refl h
+comes-to p (Add a b c ∷ is) es h = turn-plain p is es (Add a b c) refl h
+comes-to p (Sub a b c ∷ is) es h = turn-plain p is es (Sub a b c) refl h
+comes-to p (Less a b c ∷ is) es h = turn-plain p is es (Less a b c) refl h
+comes-to p (Read a v ∷ is) es h = turn-plain p is es (Read a v) refl h
+comes-to p (Write a v ∷ is) es h = turn-plain p is es (Write a v) refl h
+comes-to p (Take k ∷ is) es h = turn-plain p is es (Take k) refl h
+comes-to p (Give k ∷ is) es h = turn-plain p is es (Give k) refl h
+comes-to p (If a n ∷ is) es h = let t = turn-open p is es n (entry.Then (p + n)) h in at-if (t .0) (t .1)
+comes-to p (Else n ∷ is) es h = closes (turn-else p is n es h)
+comes-to p (While a n ∷ is) es h = let t = turn-open p is es n (entry.Loop (p + n) n) h in at-while (t .0) (t .1)
+comes-to p (Again n ∷ is) es h = closes (turn-again p is n es h)
+comes-to p (Atomic n ∷ is) es h = let t = turn-open p is es n (entry.Block (p + n)) h in at-atomic (t .0) (t .1)
+comes-to p (End ∷ is) es h = closes (turn-end p is es h)

@@ -4,13 +4,10 @@ use mathlib.Core.Bool.{Bool, _&&_}
 use mathlib.Core.List.{List}
 use lib.ListN.{length, getD}
 use lib.Dec.{leb, eqb}
-use Rattle.program.specs.Choice.{choose}
+use Rattle.program.specs.Answer.{Answer, fine, refused, _>>=_, _>>_, require}
 use Rattle.program.specs.declared.cursor.Cursor.{Cursor}
 use Rattle.program.specs.declared.cursor.Field.{Field}
 use Rattle.program.specs.declared.cursor.Field.the-variants.{Value, Refused}
-use Rattle.program.specs.declared.found.Found.{Found}
-use Rattle.program.specs.declared.found.Found.the-variants.{Nowhere, At}
-use Rattle.program.specs.declared.refusal.Refusal.{Refusal}
 use Rattle.program.specs.declared.refusal.Refusal.the-variants.{Missing, Length}
 
 -- the numbers at an offset, of one, two and four bytes
@@ -26,46 +23,32 @@ wordAt s at = pairAt s at * 65536 + pairAt s (at + 2)
 abbrev pub cursor : ℕ → Cursor
 cursor at = record { at = at }
 
--- go on with a value and the cursor past it, or hand the refusal up
-infixl 55 _>>=_
-abbrev pub _>>=_ : Field → (ℕ × Cursor → Field) → Field
-(Value v c) >>= f = f (v, c)
-(Refused r) >>= f = Refused r
-
-infixl 55 _>>_
-abbrev pub _>>_ : (Field → Field) → Field → Field
-f >> rest = f rest
-
--- go on if the test holds, else the refusal
-abbrev pub require : Bool → Refusal → Field → Field
-require ok r rest = choose ok rest (Refused r)
-
--- go on if there is no offence, else the refusal at the first one's offset
-abbrev pub requireNone : Found → (ℕ → Refusal) → Field → Field
-requireNone Nowhere r rest = rest
-requireNone (At d) r rest = Refused (r d)
+-- what src/'s enum says: a value and the cursor past it, or the refusal
+abbrev pub fieldAnswer : Field → Answer (ℕ × Cursor)
+fieldAnswer (Value v c) = fine (v, c)
+fieldAnswer (Refused r) = refused r
 
 -- "1: bytes of a field or section missing; D is the file's length": n bytes from the cursor on are there
 unfoldable pub present : List ℕ → Cursor → ℕ → Bool
 present s c n = leb (c .at + n) (length s)
 
 -- a field of one byte
-unfoldable pub byteField : List ℕ → Cursor → Field
+unfoldable pub byteField : List ℕ → Cursor → Answer (ℕ × Cursor)
 byteField s c = do
   require (present s c 1) (Missing (length s))
-  Value (byteAt s (c .at)) (cursor (c .at + 1))
+  fine (byteAt s (c .at), cursor (c .at + 1))
 
 -- a field of two bytes
-unfoldable pub pairField : List ℕ → Cursor → Field
+unfoldable pub pairField : List ℕ → Cursor → Answer (ℕ × Cursor)
 pairField s c = do
   require (present s c 2) (Missing (length s))
-  Value (pairAt s (c .at)) (cursor (c .at + 2))
+  fine (pairAt s (c .at), cursor (c .at + 2))
 
 -- a section's head: its number of records, and the cursor at the first. "4: a section length that is no multiple of 6 (variables) or
 -- 4 (code), or above 384 or 4,096; tested before the section's bytes"; these are "counted before its first record is read"
-unfoldable pub section : (size limit : ℕ) → List ℕ → Cursor → Field
+unfoldable pub section : (size limit : ℕ) → List ℕ → Cursor → Answer (ℕ × Cursor)
 section size limit s c = do
   (n, first) ← pairField s c
   require (eqb (n % size) 0 && leb n limit) (Length (c .at))
   require (present s first n) (Missing (length s))
-  Value (n / size) first
+  fine (n / size, first)

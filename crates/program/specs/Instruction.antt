@@ -5,6 +5,7 @@ use mathlib.Core.List.{List, [], _∷_}
 use lib.Dec.{ltb, eqb}
 use Rattle.program.specs.Choice.{choose}
 use Rattle.program.specs.Field.{byteAt}
+use Rattle.program.specs.Limits.{registerCount}
 use Rattle.program.specs.declared.instruction.Instruction.{Instruction}
 use Rattle.program.specs.declared.instruction.Instruction.the-variants.{Set, Copy, Add, Sub, Less, Read, Write, Take, Give, If, Else, While, Again, Atomic, End}
 use Rattle.program.specs.declared.instruction.Form.{Form}
@@ -16,22 +17,22 @@ pub data Decoded : Type 0 where
   Invalid : Decoded
 
 -- a row of the table: op code, what its fields must be, the instruction
-pub record Row : Type 0 where
+pub record TableRow : Type 0 where
   pub op : ℕ
   pub fields : Bool
   pub instruction : Instruction
 
-abbrev row : ℕ → Bool → Instruction → Row
+abbrev row : ℕ → Bool → Instruction → TableRow
 row op fields i = record { op = op; fields = fields; instruction = i }
 
 -- the row of an op code, if its fields are right
-abbrev pub lookUp : ℕ → List Row → Decoded
+abbrev pub lookUp : ℕ → List TableRow → Decoded
 lookUp op [] = Invalid
 lookUp op (r ∷ rs) = choose (eqb op (r .op)) (choose (r .fields) (Valid (r .instruction)) Invalid) (lookUp op rs)
 
 -- "Registers are r0 to r7"; "A field not mentioned is 0"
 abbrev pub isRegister : ℕ → Bool
-isRegister a = ltb a 8
+isRegister a = ltb a registerCount
 
 abbrev pub isZero : ℕ → Bool
 isZero a = eqb a 0
@@ -63,9 +64,9 @@ isValid (Valid i) = true
 isValid Invalid = false
 
 -- the instruction that valid bytes say
-abbrev pub instructionOf : Decoded → Instruction
-instructionOf (Valid i) = i
-instructionOf Invalid = End
+abbrev pub decodedInstruction : Decoded → Instruction
+decodedInstruction (Valid i) = i
+decodedInstruction Invalid = End
 
 -- the four bytes at an offset
 unfoldable pub decodeAt : (locks variables : ℕ) → List ℕ → ℕ → Decoded

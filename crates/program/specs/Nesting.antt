@@ -7,6 +7,7 @@ use lib.ListN.{length}
 use lib.Dec.{ltb, eqb}
 use Rattle.program.specs.Choice.{choose}
 use Rattle.program.specs.Instruction.{formOf}
+use Rattle.program.specs.Limits.{entryLimit}
 use Rattle.program.specs.declared.found.Found.{Found}
 use Rattle.program.specs.declared.found.Found.the-variants.{Nowhere, At}
 use Rattle.program.specs.declared.instruction.Instruction.{Instruction}
@@ -17,9 +18,9 @@ use Rattle.program.specs.declared.nesting.Entry.the-variants.{Then, Loop
 use Rattle.program.specs.declared.nesting.Entry.the-variants as entry
 
 -- the entries open after a place, or nesting broken there
-pub data Nested : Type 0 where
-  broken : Nested
-  opened : List Entry → Nested
+pub data OpenAfter : Type 0 where
+  broken : OpenAfter
+  opened : List Entry → OpenAfter
 
 -- the place that an entry names
 unfoldable pub named : Entry → ℕ
@@ -34,15 +35,15 @@ unnamed p [] = true
 unnamed p (e ∷ es) = not (eqb (named e) p)
 
 -- "a distance is 0"; "a 17th entry opens"
-unfoldable pub opening : ℕ → ℕ → Entry → List Entry → Nested
-opening p n e es = choose (unnamed p es && not (eqb n 0) && ltb (length es) 16) (opened (e ∷ es)) broken
+unfoldable pub opening : ℕ → ℕ → Entry → List Entry → OpenAfter
+opening p n e es = choose (unnamed p es && not (eqb n 0) && ltb (length es) entryLimit) (opened (e ∷ es)) broken
 
-unfoldable pub passing : ℕ → List Entry → Nested
+unfoldable pub passing : ℕ → List Entry → OpenAfter
 passing p es = choose (unnamed p es) (opened es) broken
 
 -- "a closer has no open entry, or is of the wrong kind for the innermost one, or stands elsewhere than named". "ELSE must stand at
 -- the place its IF named and puts the place of its END there instead"
-unfoldable pub atElse : ℕ → ℕ → List Entry → Nested
+unfoldable pub atElse : ℕ → ℕ → List Entry → OpenAfter
 atElse p n [] = broken
 atElse p n (Then w ∷ es) = choose (eqb w p && not (eqb n 0)) (opened (entry.Else (p + n) ∷ es)) broken
 atElse p n (entry.Else w ∷ es) = broken
@@ -50,14 +51,14 @@ atElse p n (Loop w m ∷ es) = broken
 atElse p n (Block w ∷ es) = broken
 
 -- "AGAIN's n differs from its WHILE's"
-unfoldable pub atAgain : ℕ → ℕ → List Entry → Nested
+unfoldable pub atAgain : ℕ → ℕ → List Entry → OpenAfter
 atAgain p n [] = broken
 atAgain p n (Then w ∷ es) = broken
 atAgain p n (entry.Else w ∷ es) = broken
 atAgain p n (Loop w m ∷ es) = choose (eqb w p && not (eqb n 0) && eqb n m) (opened es) broken
 atAgain p n (Block w ∷ es) = broken
 
-unfoldable pub atEnd : ℕ → List Entry → Nested
+unfoldable pub atEnd : ℕ → List Entry → OpenAfter
 atEnd p [] = broken
 atEnd p (Then w ∷ es) = broken
 atEnd p (entry.Else w ∷ es) = choose (eqb w p) (opened es) broken
@@ -65,7 +66,7 @@ atEnd p (Loop w m ∷ es) = broken
 atEnd p (Block w ∷ es) = choose (eqb w p) (opened es) broken
 
 -- an instruction of this form at place p
-unfoldable pub nest : ℕ → Form → List Entry → Nested
+unfoldable pub nest : ℕ → Form → List Entry → OpenAfter
 nest p Plain es = passing p es
 nest p (If a n) es = opening p n (Then (p + n)) es
 nest p (Else n) es = atElse p n es
@@ -79,7 +80,7 @@ unfoldable pub atCodeEnd : ℕ → List Entry → Found
 atCodeEnd p [] = Nowhere
 atCodeEnd p (e ∷ es) = At p
 
-abbrev pub goOn : ℕ → Nested → (List Entry → Found) → Found
+abbrev pub goOn : ℕ → OpenAfter → (List Entry → Found) → Found
 goOn p broken rest = At p
 goOn p (opened es) rest = rest es
 

@@ -4,7 +4,7 @@ ghost use mathlib.Core.Path.{_≡_};
 ghost use Prim.Native.Nat.{_+_, _*_, _≤_, _<_};
 ghost use lib.ListN.{length};
 ghost use lib.Dec.{leb};
-ghost use Rattle.program.specs.Field.{byteAt, pairAt, byteField, pairField};
+ghost use Rattle.program.specs.Field.{byteAt, pairAt, fieldAnswer, byteField, pairField};
 ghost use Rattle.program.specs.Field as Fields;
 
 // The offset of the next byte to read.
@@ -54,7 +54,7 @@ pub fn has_bytes(s: &[u8], at: usize, n: usize) -> bool
 
 // A field of one byte, and of two.
 pub fn byte_field(s: &[u8], c: Cursor) -> Field
-    ensures { λ r. ⌜ r ≡ byteField (now (s .entry)) c ⌝ }
+    ensures { λ r. ⌜ fieldAnswer r ≡ byteField (now (s .entry)) c ⌝ }
 {
     let at = c.at;
     if has_bytes(s, at, 1) {
@@ -64,7 +64,7 @@ pub fn byte_field(s: &[u8], c: Cursor) -> Field
 }
 
 pub fn pair_field(s: &[u8], c: Cursor) -> Field
-    ensures { λ r. ⌜ r ≡ pairField (now (s .entry)) c ⌝ }
+    ensures { λ r. ⌜ fieldAnswer r ≡ pairField (now (s .entry)) c ⌝ }
 {
     let at = c.at;
     if has_bytes(s, at, 2) {
@@ -76,7 +76,7 @@ pub fn pair_field(s: &[u8], c: Cursor) -> Field
 // A section's head: its number of records, and the cursor at the first.
 pub fn section(s: &[u8], c: Cursor, size: usize, limit: usize) -> Field
     requires { ⌜ 0 < size ⌝ }
-    ensures { λ r. ⌜ r ≡ Fields.section size limit (now (s .entry)) c ⌝ }
+    ensures { λ r. ⌜ fieldAnswer r ≡ Fields.section size limit (now (s .entry)) c ⌝ }
 {
     let f = pair_field(s, c);
     let Field::Value(n, first) = f else {

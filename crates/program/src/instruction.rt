@@ -1,14 +1,20 @@
 // A decoded instruction (document 01, "The file": the table of op codes).
 use crate::found::Found;
+use crate::limits::INSTRUCTION_SIZE;
+use crate::limits::REGISTER_COUNT;
 ghost use mathlib.Core.Path.{_≡_};
 ghost use mathlib.Core.Bool.{true, _&&_};
 ghost use Prim.Native.Nat.{ℕ, _+_, _*_, _≤_};
 ghost use lib.ListN.{length};
 ghost use lib.Dec.{ltb};
 ghost use Rattle.program.specs.Choice.{firstBad};
-ghost use Rattle.program.specs.Instruction.{isRegister, isZero, decodeAt, instructionOf, formOf};
+ghost use Rattle.program.specs.Instruction.{isRegister, isZero, decodeAt, decodedInstruction, formOf};
 ghost use Rattle.program.specs.Instruction as Table;
-ghost use Rattle.program.specs.Row.{rowNumber};
+ghost use Rattle.program.specs.Limits.{instructionSize};
+ghost use Rattle.program.specs.Internal.RowNumber.{rowNumber};
+
+// The number of registers, as a field's byte is compared with it.
+const REGISTERS: u8 = REGISTER_COUNT as u8;
 
 pub enum Instruction {
     Set(u8, u16),
@@ -43,19 +49,19 @@ pub enum Form {
 fn is_copy(a: u8, b: u8, c: u8) -> bool
     ensures { λ r. ⌜ r ≡ (isRegister a && isRegister b && isZero c) ⌝ }
 {
-    (a < 8) & (b < 8) & (c == 0)
+    (a < REGISTERS) & (b < REGISTERS) & (c == 0)
 }
 
 fn are_registers(a: u8, b: u8, c: u8) -> bool
     ensures { λ r. ⌜ r ≡ (isRegister a && isRegister b && isRegister c) ⌝ }
 {
-    (a < 8) & (b < 8) & (c < 8)
+    (a < REGISTERS) & (b < REGISTERS) & (c < REGISTERS)
 }
 
 fn is_access(variables: usize, a: u8, b: u8, c: u8) -> bool
     ensures { λ r. ⌜ r ≡ (isRegister a && ltb b variables && isZero c) ⌝ }
 {
-    (a < 8) & ((b as usize) < variables) & (c == 0)
+    (a < REGISTERS) & ((b as usize) < variables) & (c == 0)
 }
 
 fn is_lock(locks: usize, a: u8, b: u8, c: u8) -> bool
@@ -75,7 +81,7 @@ pub fn is_valid(locks: usize, variables: usize, op: u8, a: u8, b: u8, c: u8) -> 
     ensures { λ r. ⌜ r ≡ Table.isValid (Table.decode locks variables op a b c) ⌝ }
 {
     match op {
-        0x01 => a < 8,
+        0x01 => a < REGISTERS,
         0x02 => is_copy(a, b, c),
         0x03 => are_registers(a, b, c),
         0x04 => are_registers(a, b, c),
@@ -84,9 +90,9 @@ pub fn is_valid(locks: usize, variables: usize, op: u8, a: u8, b: u8, c: u8) -> 
         0x11 => is_access(variables, a, b, c),
         0x20 => is_lock(locks, a, b, c),
         0x21 => is_lock(locks, a, b, c),
-        0x30 => a < 8,
+        0x30 => a < REGISTERS,
         0x31 => a == 0,
-        0x32 => a < 8,
+        0x32 => a < REGISTERS,
         0x33 => a == 0,
         0x34 => a == 0,
         0x35 => are_zero(a, b, c),
@@ -96,7 +102,7 @@ pub fn is_valid(locks: usize, variables: usize, op: u8, a: u8, b: u8, c: u8) -> 
 
 // The four bytes at an offset.
 pub fn is_valid_at(s: &[u8], at: usize, locks: usize, variables: usize) -> bool
-    requires { ⌜ at + 4 ≤ length (now s) ⌝ }
+    requires { ⌜ at + instructionSize ≤ length (now s) ⌝ }
     ensures { λ r. ⌜ r ≡ Table.isValid (decodeAt locks variables (now (s .entry)) at) ⌝ }
 {
     is_valid(locks, variables, s[at], s[at + 1], s[at + 2], s[at + 3])
@@ -121,7 +127,7 @@ fn row_number(op: u8) -> u8
 
 // What an op code and its fields say, where they are right: the op alone decides.
 pub fn valid_instruction(op: u8, a: u8, b: u8, c: u8) -> Instruction
-    ensures { λ r. ⌜ ((locks variables : ℕ) → Table.isValid (Table.decode locks variables op a b c) ≡ true → r ≡ instructionOf (Table.decode locks variables op a b c)) ⌝ }
+    ensures { λ r. ⌜ ((locks variables : ℕ) → Table.isValid (Table.decode locks variables op a b c) ≡ true → r ≡ decodedInstruction (Table.decode locks variables op a b c)) ⌝ }
 {
     let n = (b as u16) * 256 + (c as u16);
     let row = row_number(op);
@@ -146,8 +152,8 @@ pub fn valid_instruction(op: u8, a: u8, b: u8, c: u8) -> Instruction
 
 // The instruction of the four bytes at an offset, where they are valid.
 pub fn valid_instruction_at(s: &[u8], at: usize) -> Instruction
-    requires { ⌜ at + 4 ≤ length (now s) ⌝ }
-    ensures { λ r. ⌜ ((locks variables : ℕ) → Table.isValid (decodeAt locks variables (now (s .entry)) at) ≡ true → r ≡ instructionOf (decodeAt locks variables (now (s .entry)) at)) ⌝ }
+    requires { ⌜ at + instructionSize ≤ length (now s) ⌝ }
+    ensures { λ r. ⌜ ((locks variables : ℕ) → Table.isValid (decodeAt locks variables (now (s .entry)) at) ≡ true → r ≡ decodedInstruction (decodeAt locks variables (now (s .entry)) at)) ⌝ }
 {
     valid_instruction(s[at], s[at + 1], s[at + 2], s[at + 3])
 }
@@ -183,8 +189,8 @@ pub fn first_bad_instruction(
     locks: usize,
     variables: usize,
 ) -> Found
-    requires { ⌜ start + 4 * n ≤ length (now s) ⌝ }
-    ensures { λ r. ⌜ r ≡ firstBad (λ p. Table.isValid (decodeAt locks variables (now (s .entry)) p)) 4 n start ⌝ }
+    requires { ⌜ start + instructionSize * n ≤ length (now s) ⌝ }
+    ensures { λ r. ⌜ r ≡ firstBad (λ p. Table.isValid (decodeAt locks variables (now (s .entry)) p)) instructionSize n start ⌝ }
 {
     let mut at = start;
     let mut left = n;
@@ -192,7 +198,7 @@ pub fn first_bad_instruction(
         if !is_valid_at(s, at, locks, variables) {
             return Found::At(at);
         }
-        at += 4;
+        at += INSTRUCTION_SIZE;
         left -= 1;
     }
     Found::Nowhere

@@ -8,15 +8,22 @@ use crate::cursor::pair_at;
 use crate::cursor::section;
 use crate::found::Found;
 use crate::instruction::first_bad_instruction;
+use crate::limits::CODE_SECTION_LIMIT;
+use crate::limits::INSTRUCTION_SIZE;
+use crate::limits::LOCK_LIMIT;
+use crate::limits::THREAD_LIMIT;
+use crate::limits::VARIABLE_SECTION_LIMIT;
+use crate::limits::VARIABLE_SIZE;
 use crate::nesting::first_broken;
 use crate::refusal::Refusal;
 use crate::variable::first_bad_record;
 ghost use mathlib.Core.Path.{_≡_};
 ghost use Prim.Native.Nat.{_+_, _/_, _≤_};
 ghost use lib.ListN.{length};
-ghost use Rattle.program.specs.Field.{pairAt};
-ghost use Rattle.program.specs.Layout.{variableSection, codeSection, codeSections, reading};
+ghost use Rattle.program.specs.Field.{pairAt, fieldAnswer};
+ghost use Rattle.program.specs.Layout.{variableSection, codeSection, codeSections, reading, readingAnswer};
 ghost use Rattle.program.specs.Layout as File;
+ghost use Rattle.program.specs.Limits.{threadLimit, instructionSize};
 
 // The counts of a sound file, by which every section is found.
 pub struct Layout {
@@ -34,16 +41,16 @@ pub enum Reading {
 // How many instructions a code section has whose length field is at an offset.
 pub fn code_count(s: &[u8], at: usize) -> usize
     requires { ⌜ at + 2 ≤ length (now s) ⌝ }
-    ensures { λ r. ⌜ r ≡ pairAt (now (s .entry)) at / 4 ⌝ }
+    ensures { λ r. ⌜ r ≡ pairAt (now (s .entry)) at / instructionSize ⌝ }
 {
-    pair_at(s, at) / 4
+    pair_at(s, at) / INSTRUCTION_SIZE
 }
 
 // The variable section.
 fn variable_section(s: &[u8], c: Cursor, locks: usize, threads: usize) -> Field
-    ensures { λ r. ⌜ r ≡ variableSection locks threads (now (s .entry)) c ⌝ }
+    ensures { λ r. ⌜ fieldAnswer r ≡ variableSection locks threads (now (s .entry)) c ⌝ }
 {
-    let f = section(s, c, 6, 384);
+    let f = section(s, c, VARIABLE_SIZE, VARIABLE_SECTION_LIMIT);
     let Field::Value(n, first) = f else {
         return f;
     };
@@ -51,15 +58,20 @@ fn variable_section(s: &[u8], c: Cursor, locks: usize, threads: usize) -> Field
     let bad = first_bad_record(s, start, n, locks, threads);
     match bad {
         Found::At(d) => Field::Refused(Refusal::Record(d)),
-        Found::Nowhere => Field::Value(n, Cursor { at: start + 6 * n }),
+        Found::Nowhere => Field::Value(
+            n,
+            Cursor {
+                at: start + VARIABLE_SIZE * n,
+            },
+        ),
     }
 }
 
 // One thread's code section: all its instructions, then its nesting.
 fn code_section(s: &[u8], c: Cursor, locks: usize, variables: usize) -> Field
-    ensures { λ r. ⌜ r ≡ codeSection locks variables (now (s .entry)) c ⌝ }
+    ensures { λ r. ⌜ fieldAnswer r ≡ codeSection locks variables (now (s .entry)) c ⌝ }
 {
-    let f = section(s, c, 4, 4096);
+    let f = section(s, c, INSTRUCTION_SIZE, CODE_SECTION_LIMIT);
     let Field::Value(n, first) = f else {
         return f;
     };
@@ -71,14 +83,19 @@ fn code_section(s: &[u8], c: Cursor, locks: usize, variables: usize) -> Field
     let broken = first_broken(s, start, n);
     match broken {
         Found::At(d) => Field::Refused(Refusal::Nesting(d)),
-        Found::Nowhere => Field::Value(n, Cursor { at: start + 4 * n }),
+        Found::Nowhere => Field::Value(
+            n,
+            Cursor {
+                at: start + INSTRUCTION_SIZE * n,
+            },
+        ),
     }
 }
 
 // The code sections of n threads: how many instructions they have together.
 fn code_sections(s: &[u8], c: Cursor, n: usize, locks: usize, variables: usize) -> Field
-    requires { ⌜ n ≤ 8 ⌝ }
-    ensures { λ r. ⌜ r ≡ codeSections locks variables (now (s .entry)) n c ⌝ }
+    requires { ⌜ n ≤ threadLimit ⌝ }
+    ensures { λ r. ⌜ fieldAnswer r ≡ codeSections locks variables (now (s .entry)) n c ⌝ }
 {
     let mut at = c.at;
     let mut left = n;
@@ -97,7 +114,7 @@ fn code_sections(s: &[u8], c: Cursor, n: usize, locks: usize, variables: usize) 
 
 // The whole file: three bytes, the variable section, a code section for each thread, and nothing left over.
 fn fields(s: &[u8]) -> Field
-    ensures { λ r. ⌜ r ≡ File.fields (now (s .entry)) ⌝ }
+    ensures { λ r. ⌜ fieldAnswer r ≡ File.fields (now (s .entry)) ⌝ }
 {
     let f = byte_field(s, Cursor { at: 0 });
     let Field::Value(version, c1) = f else {
@@ -110,7 +127,7 @@ fn fields(s: &[u8]) -> Field
     let Field::Value(locks, c2) = f else {
         return f;
     };
-    if 16 < locks {
+    if LOCK_LIMIT < locks {
         return Field::Refused(Refusal::Count(1));
     }
     let f = byte_field(s, c2);
@@ -120,7 +137,7 @@ fn fields(s: &[u8]) -> Field
     if threads < 1 {
         return Field::Refused(Refusal::Count(2));
     }
-    if 8 < threads {
+    if THREAD_LIMIT < threads {
         return Field::Refused(Refusal::Count(2));
     }
     let f = variable_section(s, c3, locks, threads);
@@ -140,14 +157,14 @@ fn fields(s: &[u8]) -> Field
 
 // A file read front to back: sound, or the first offence.
 pub fn read(s: &[u8]) -> Reading
-    ensures { λ r. ⌜ r ≡ reading (now (s .entry)) ⌝ }
+    ensures { λ r. ⌜ readingAnswer r ≡ reading (now (s .entry)) ⌝ }
 {
     let f = fields(s);
     match f {
         Field::Value(n, _) => Reading::Sound(Layout {
             locks: byte_at(s, 1),
             threads: byte_at(s, 2),
-            variables: pair_at(s, 3) / 6,
+            variables: pair_at(s, 3) / VARIABLE_SIZE,
             instructions: n,
         }),
         Field::Refused(r) => Reading::Refused(r),

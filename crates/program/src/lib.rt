@@ -3,6 +3,7 @@ pub mod cursor;
 pub mod found;
 pub mod instruction;
 pub mod layout;
+pub mod limits;
 pub mod nesting;
 pub mod refusal;
 pub mod variable;

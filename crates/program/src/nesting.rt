@@ -3,6 +3,8 @@ use crate::found::Found;
 use crate::instruction::Form;
 use crate::instruction::form_of;
 use crate::instruction::valid_instruction_at;
+use crate::limits::ENTRY_LIMIT;
+use crate::limits::INSTRUCTION_SIZE;
 ghost use mathlib.Core.Path.{_≡_};
 ghost use mathlib.Core.Bool.{not};
 ghost use mathlib.Core.List.{List, []};
@@ -10,8 +12,10 @@ ghost use Prim.Native.Nat.{ℕ, _+_, _-_, _*_, _^_, _≤_, _<_};
 ghost use lib.ListN.{length, getD};
 ghost use Rattle.program.specs.Nesting.{unnamed, opening, passing, atElse, atAgain, atEnd, nest, firstBroken};
 ghost use Rattle.program.specs.Nesting as Nesting;
-ghost use Rattle.program.specs.Layout.{AllValid, instructionsAt, offsetFrom};
-ghost use Rattle.program.specs.Stack.{under, Right, entriesOf};
+ghost use Rattle.program.specs.Layout.{instructionsAt, offsetFrom};
+ghost use Rattle.program.specs.Internal.Sound.{AllValid};
+ghost use Rattle.program.specs.Limits.{instructionSize};
+ghost use Rattle.program.specs.Internal.Change.{under, Right, entriesOf};
 
 // The entries that openers open. Each names the place of its closer.
 pub enum Entry {
@@ -77,7 +81,7 @@ fn at_opener(p: usize, n: usize, e: Entry, top: Top, depth: usize) -> Turn
     if n == 0 {
         return Turn::Broken;
     }
-    if depth < 16 {
+    if depth < ENTRY_LIMIT {
         return Turn::Goes(Change::Push(e));
     }
     Turn::Broken
@@ -213,15 +217,15 @@ fn innermost(e: Entry, depth: usize) -> Top
 // Where nesting of n valid instructions is first broken, as an offset: that of the instruction, or the section's end if an entry is
 // open there.
 pub fn first_broken(s: &[u8], start: usize, n: usize) -> Found
-    requires { ⌜ start + 4 * n ≤ length (now s) ⌝ }
+    requires { ⌜ start + instructionSize * n ≤ length (now s) ⌝ }
     ensures { λ r. ⌜ ((locks variables : ℕ) → AllValid locks variables (now (s .entry)) n start
         → r ≡ offsetFrom start (firstBroken 0 (instructionsAt locks variables (now (s .entry)) n start) [])) ⌝ }
 {
-    let mut entries = [Entry::Block(0); 17];
+    let mut entries = [Entry::Block(0); ENTRY_LIMIT + 1];
     let mut depth = 0;
     let mut p = 0;
     while p < n {
-        let at = start + 4 * p;
+        let at = start + INSTRUCTION_SIZE * p;
         let f = form_of(valid_instruction_at(s, at));
         let e = entries[depth];
         let t = turn_at(p, f, innermost(e, depth), depth);
@@ -246,5 +250,5 @@ pub fn first_broken(s: &[u8], start: usize, n: usize) -> Found
     if depth == 0 {
         return Found::Nowhere;
     }
-    Found::At(start + 4 * n)
+    Found::At(start + INSTRUCTION_SIZE * n)
 }

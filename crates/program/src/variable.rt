@@ -1,11 +1,13 @@
 // A variable record's kind (document 01, "The file": "Kinds").
 use crate::cursor::pair_at;
 use crate::found::Found;
+use crate::limits::VARIABLE_SIZE;
 ghost use mathlib.Core.Path.{_≡_};
 ghost use Prim.Native.Nat.{_+_, _*_, _≤_};
 ghost use lib.ListN.{length};
 ghost use Rattle.program.specs.Choice.{choose, firstBad};
 ghost use Rattle.program.specs.Field.{wordAt};
+ghost use Rattle.program.specs.Limits.{variableSize};
 ghost use Rattle.program.specs.Variable.{recordAt, kindOf};
 ghost use Rattle.program.specs.Variable as Variable;
 
@@ -49,7 +51,7 @@ pub fn record_of(locks: usize, threads: usize, kind: u8, g: u8) -> Recorded
 
 // The record at an offset.
 pub fn record_at(s: &[u8], at: usize, locks: usize, threads: usize) -> Recorded
-    requires { ⌜ at + 6 ≤ length (now s) ⌝ }
+    requires { ⌜ at + variableSize ≤ length (now s) ⌝ }
     ensures { λ r. ⌜ r ≡ recordAt locks threads (now (s .entry)) at ⌝ }
 {
     record_of(locks, threads, s[at], s[at + 1])
@@ -57,7 +59,7 @@ pub fn record_at(s: &[u8], at: usize, locks: usize, threads: usize) -> Recorded
 
 // The kind that it says.
 pub fn kind_at(s: &[u8], at: usize, locks: usize, threads: usize) -> Kind
-    requires { ⌜ at + 6 ≤ length (now s) ⌝ }
+    requires { ⌜ at + variableSize ≤ length (now s) ⌝ }
     ensures { λ r. ⌜ r ≡ kindOf (recordAt locks threads (now (s .entry)) at) ⌝ }
 {
     let Recorded::Valid(k) = record_at(s, at, locks, threads) else {
@@ -68,7 +70,7 @@ pub fn kind_at(s: &[u8], at: usize, locks: usize, threads: usize) -> Kind
 
 // Its initial value.
 pub fn initial_at(s: &[u8], at: usize) -> u32
-    requires { ⌜ at + 6 ≤ length (now s) ⌝ }
+    requires { ⌜ at + variableSize ≤ length (now s) ⌝ }
     ensures { λ r. ⌜ r ≡ wordAt (now (s .entry)) (at + 2) ⌝ }
 {
     let first = at + 2;
@@ -77,8 +79,8 @@ pub fn initial_at(s: &[u8], at: usize) -> u32
 
 // The first of n records from an offset on that is not valid.
 pub fn first_bad_record(s: &[u8], start: usize, n: usize, locks: usize, threads: usize) -> Found
-    requires { ⌜ start + 6 * n ≤ length (now s) ⌝ }
-    ensures { λ r. ⌜ r ≡ firstBad (λ p. Variable.isValid (recordAt locks threads (now (s .entry)) p)) 6 n start ⌝ }
+    requires { ⌜ start + variableSize * n ≤ length (now s) ⌝ }
+    ensures { λ r. ⌜ r ≡ firstBad (λ p. Variable.isValid (recordAt locks threads (now (s .entry)) p)) variableSize n start ⌝ }
 {
     let mut at = start;
     let mut left = n;
@@ -87,7 +89,7 @@ pub fn first_bad_record(s: &[u8], start: usize, n: usize, locks: usize, threads:
         let Recorded::Valid(_) = r else {
             return Found::At(at);
         };
-        at += 6;
+        at += VARIABLE_SIZE;
         left -= 1;
     }
     Found::Nowhere

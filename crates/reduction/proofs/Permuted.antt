@@ -1,6 +1,10 @@
--- Laws of `Permuted`: how a move gets behind others, and what is preserved: a property of each move, the blocks' order, the
--- sums of weights, each thread's moves.
--- Assumes nothing.
+-- Laws of `Permuted`. Assumes nothing.
+--     prep-all         the same moves in front of both
+--     swap-behind      a move gets behind others
+--     permuted-all     a property of each move is preserved
+--     permuted-order   so is the blocks' order
+--     permuted-total   ... the sum of weights
+--     permuted-moves   ... each thread's moves
 use Prim.Native.Nat.{ℕ, _+_}
 use native.Mathlib.Nat.{add-left-comm}
 use native.Mathlib.Decide.{ℕ-discrete}
@@ -10,7 +14,7 @@ use mathlib.Core.List.{List, [], _∷_, _++_}
 use Rattle.reduction.specs.Sequence.{All, all-nil, all-cons, pairs-cons, total}
 use Rattle.reduction.specs.Moves.{Moves}
 use Rattle.reduction.specs.Reduction.{movesOf, Ordered}
-use Rattle.reduction.specs.Serial.{Permuted, same, swap, prep, trans}
+use Rattle.reduction.specs.Serial.{Permuted, unswapped, swap, prep, trans}
 
 -- of two elements of which a filter takes at most one, the order does not matter to it
 filter-swap : {A P Q : Type 0} (d : Dec P) (e : Dec Q) → (P → Q → ⊥) → (x y : A) (l : List A) →
@@ -30,34 +34,34 @@ module _ (M : Moves) {R : M .Block → M .Block → Type 0} where
   prep-all (x ∷ a) p = prep (prep-all a p)
 
   -- x gets behind other threads' moves c
-  pub over : {x : Move} {c : List Move} (l : List Move) →
+  pub swap-behind : {x : Move} {c : List Move} (l : List Move) →
       All (λ y. thread x ≢ thread y) c → All (λ y. R (block y) (block x)) c → Permuted M R (x ∷ (c ++ l)) (c ++ x ∷ l)
-  over l all-nil all-nil = same
-  over l (all-cons n ns) (all-cons r rs) = trans (swap n r) (prep (over l ns rs))
+  swap-behind l all-nil all-nil = unswapped
+  swap-behind l (all-cons n ns) (all-cons r rs) = trans (swap n r) (prep (swap-behind l ns rs))
 
   -- ---- what is preserved
 
   pub permuted-all : {P : Move → Type 0} {l k : List Move} → Permuted M R l k → All P l → All P k
-  permuted-all same h = h
+  permuted-all unswapped h = h
   permuted-all (swap n r) (all-cons p (all-cons q h)) = all-cons q (all-cons p h)
   permuted-all (prep s) (all-cons p h) = all-cons p (permuted-all s h)
   permuted-all (trans s t) h = permuted-all t (permuted-all s h)
 
   pub permuted-order : {l k : List Move} → Permuted M R l k → Ordered M R l → Ordered M R k
-  permuted-order same h = h
+  permuted-order unswapped h = h
   permuted-order (swap n r) (pairs-cons (all-cons p a) (pairs-cons b h)) = pairs-cons (all-cons r b) (pairs-cons a h)
   permuted-order (prep s) (pairs-cons a h) = pairs-cons (permuted-all s a) (permuted-order s h)
   permuted-order (trans s t) h = permuted-order t (permuted-order s h)
 
   pub permuted-total : (f : Move → ℕ) {l k : List Move} → Permuted M R l k → total f k ≡ total f l
   unfolding total
-  permuted-total f same = refl
+  permuted-total f unswapped = refl
   permuted-total f (swap {x} {y} {l} n r) = add-left-comm (f y) (f x) (total f l)
   permuted-total f (prep {x} s) = ap (λ n. f x + n) (permuted-total f s)
   permuted-total f (trans s t) = permuted-total f t ∙ permuted-total f s
 
   pub permuted-moves : (t : ℕ) {l k : List Move} → Permuted M R l k → movesOf M t k ≡ movesOf M t l
-  permuted-moves t same = refl
+  permuted-moves t unswapped = refl
   permuted-moves t (swap {x} {y} {l} n r) =
       filter-swap (ℕ-discrete (thread x) t) (ℕ-discrete (thread y) t) (λ p q. n (p ∙ sym q)) x y (movesOf M t l)
   permuted-moves t (prep {x} s) = ap (λ k. ite (ℕ-discrete (thread x) t) (x ∷ k) k) (permuted-moves t s)

@@ -1,5 +1,8 @@
--- The reduction theorem (Lipton; Flanagan and Qadeer, Theorem 1), and what an instance reads off it.
--- Assumes nothing.
+-- The reduction theorem (Lipton; Flanagan and Qadeer, Theorem 1), and what an instance reads off it. Assumes nothing.
+--     reduction                a trace that begins and ends with everybody outside can be made uninterrupted
+--     uninterrupted-trace      an uninterrupted trace is a trace
+--     same-length, same-count  as many moves, in all and of each thread
+--     same-precedence          a block that is over when another begins still is
 use Prim.Native.Nat.{ℕ}
 use mathlib.Core.Path.{_≡_, sym, ap, _∙_}
 use mathlib.Core.List.{List}

@@ -1,5 +1,10 @@
--- Laws of `All`, `AllPairs` and `total`: at the head, at `_++_`, where everything is related, and at the weight 1.
--- Assumes nothing.
+-- Laws of `All`, `AllPairs` and `total`. Assumes nothing.
+--     all-head, pairs-head        at the head: the first has it; the first is related to all behind it
+--     all-append                  both parts have it, so the whole does
+--     all-behind, pairs-behind    the part behind
+--     all-before, pairs-before    the part before
+--     all-of, pairs-of            where everything has it, or is related
+--     total-one                   at the weight 1 the total is the length
 use native.Mathlib.Omega.{arith}
 use mathlib.Core.Path.{_≡_, refl}
 use mathlib.Core.List.{List, [], _∷_, _++_}
@@ -16,6 +21,11 @@ module _ {A : Type 0} where
   pairs-head (pairs-cons p h) = p
 
   -- ---- `_++_`
+
+  -- both parts
+  pub all-append : {P : A → Type 0} {a l : List A} → All P a → All P l → All P (a ++ l)
+  all-append all-nil k = k
+  all-append (all-cons p h) k = all-cons p (all-append h k)
 
   -- the part behind
   pub all-behind : {P : A → Type 0} (a : List A) {l : List A} → All P (a ++ l) → All P l

@@ -14,23 +14,26 @@ use mathlib.Core.List.{List, [], _∷_, _++_}
 use Rattle.reduction.specs.Sequence.{All, all-nil, all-cons}
 use Rattle.reduction.specs.Moves.{Moves, Movers, Status, outside, beforeCommit, afterCommit, Unmoved}
 use Rattle.reduction.specs.Reduction.{Trace, trace-nil, trace-cons, Quiescent, Uninterrupted, alone-nil, alone-cons, Ordered}
-use Rattle.reduction.specs.Serial.{Permuted, same, prep, trans, Rest, rest-nil, rest-cons, Serial, serial-nil, serial-cons, Serialized}
+use Rattle.reduction.specs.Serial.{Permuted, unswapped, prep, trans, Rest, rest-nil, rest-cons, Serial, serial-nil, serial-cons, MadeSerial}
 use Rattle.reduction.proofs.Sequence.{all-head, pairs-head, all-behind, all-before, pairs-behind, pairs-before}
-use Rattle.reduction.proofs.Permuted.{prep-all, over, permuted-order}
+use Rattle.reduction.proofs.Permuted.{prep-all, swap-behind, permuted-order}
 
 -- ---- values that differ
 
 ≢-via : {A : Type 0} {x y z : A} → x ≡ y → y ≢ z → x ≢ z
 ≢-via e n h = n (sym e ∙ h)
 
+differ : _≡_ {A = ℕ} 0 1 → ⊥
+differ e = omega arith
+
 before≢outside : beforeCommit ≢ outside
-before≢outside e = let z : _≡_ {A = ℕ} 0 1 = cc in omega arith
+before≢outside e = differ cc
 
 after≢outside : afterCommit ≢ outside
-after≢outside e = let z : _≡_ {A = ℕ} 0 1 = cc in omega arith
+after≢outside e = differ cc
 
 after≢before : afterCommit ≢ beforeCommit
-after≢before e = let z : _≡_ {A = ℕ} 0 1 = cc in omega arith
+after≢before e = differ cc
 
 is-after : {σ : Status} → σ ≢ outside → σ ≢ beforeCommit → σ ≡ afterCommit
 is-after {σ = outside} o b = absurd (o refl)
@@ -65,9 +68,9 @@ module _ (M : Moves) (L : Movers M) where
       all-cons p (rest-block P (λ j. subst P (sym (ends-in g j)) p) q)
 
   -- the next move of a thread that is inside, and the rest, are its rest
-  join : {t : ℕ} {u k v : State} {x : Move} {c : List Move} →
+  rest-join : {t : ℕ} {u k v : State} {x : Move} {c : List Move} →
       t ≡ thread x → status u t ≢ outside → step u x k → Rest M (thread x) k c v → Rest M t u (x ∷ c) v × (block x ≡ blockAt u t)
-  join {u} {v} {x} {c} e i g q =
+  rest-join {u} {v} {x} {c} e i g q =
       subst (λ t. status u t ≢ outside → Rest M t u (x ∷ c) v × (block x ≡ blockAt u t)) (sym e) (λ j. (rest-cons j g q, starts-in g j)) i
 
   -- ---- swaps with a rest
@@ -101,11 +104,11 @@ module _ (M : Moves) (L : Movers M) where
       (k, q'', rest-cons (≢-via (rest-others q'' (Ne·symm n) .0) i) g' p')
 
   -- the same of the lists: the moves d get behind another thread's rest c
-  over-rest : {R : Block → Block → Type 0} {t : ℕ} {u v : State} {c d : List Move} (l : List Move) →
+  swap-behind-rest : {R : Block → Block → Type 0} {t : ℕ} {u v : State} {c d : List Move} (l : List Move) →
       Rest M t u c v → All (λ z. t ≢ thread z) d → All (λ z. R (blockAt u t) (block z)) d → Permuted M R (d ++ (c ++ l)) (c ++ (d ++ l))
-  over-rest l q all-nil all-nil = same
-  over-rest {R} l q (all-cons {x} {l = d} n ns) (all-cons r rs) =
-      trans (prep (over-rest l q ns rs)) (over M (d ++ l) (rest-thread (λ t. thread x ≢ t) (Ne·symm n) q) (rest-block (λ b. R b (block x)) (λ i. r) q))
+  swap-behind-rest l q all-nil all-nil = unswapped
+  swap-behind-rest {R} l q (all-cons {x} {l = d} n ns) (all-cons r rs) =
+      trans (prep (swap-behind-rest l q ns rs)) (swap-behind M (d ++ l) (rest-thread (λ t. thread x ≢ t) (Ne·symm n) q) (rest-block (λ b. R b (block x)) (λ i. r) q))
 
   -- ---- a serial trace
 
@@ -116,7 +119,7 @@ module _ (M : Moves) (L : Movers M) where
   pull a o serial-nil = absurd (≢-via a after≢outside o)
   pull {t} a o (serial-cons {m = x} {c = d} {l} g p q) =
       dite (ℕ-discrete t (thread x))
-      (λ e. (x ∷ d, l, _, join e (≢-via a after≢outside) g p .0, q, λ R h. same))
+      (λ e. (x ∷ d, l, _, rest-join e (≢-via a after≢outside) g p .0, q, λ R h. unswapped))
       (λ n.
       let b = ≢-via a after≢before in
       let kept = unmoved-trans (others g n) (rest-others p n) in
@@ -130,7 +133,7 @@ module _ (M : Moves) (L : Movers M) where
         serial-cons g' p' q',
         λ R h. trans
             (prep-all M (x ∷ d) (f R (subst (λ b. All (λ z. R b (block z)) l) (sym (kept .1)) (all-behind (x ∷ d) h))))
-            (over-rest k r'' (all-cons n (rest-thread (λ r. t ≢ r) n p)) (all-before (x ∷ d) l h)),
+            (swap-behind-rest k r'' (all-cons n (rest-thread (λ r. t ≢ r) n p)) (all-before (x ∷ d) l h)),
       ))
 
   -- a move that ends before its commit sinks right in front of its thread's next move, which is of the same block
@@ -143,8 +146,8 @@ module _ (M : Moves) (L : Movers M) where
       dite (ℕ-discrete (thread m) (thread x))
       (λ e.
       let i = ≢-via b before≢outside in
-      let (r, f) = join e i g p in
-      (m ∷ x ∷ (d ++ l), serial-cons h r q, λ P a. subst P (f ∙ ends-in h i) (all-head a), λ R a. same))
+      let (r, f) = rest-join e i g p in
+      (m ∷ x ∷ (d ++ l), serial-cons h r q, λ P a. subst P (f ∙ ends-in h i) (all-head a), λ R a. unswapped))
       (λ n.
       let (_, g', h') = right-mover h g n b in
       let (_, p', h'') = sink-rest h' (others g n .0 ∙ b) n p in
@@ -153,18 +156,18 @@ module _ (M : Moves) (L : Movers M) where
         serial-cons g' p' q',
         λ P a. f P (all-behind (x ∷ d) a),
         λ R a. trans
-            (over M l (all-cons n (rest-thread (λ t. thread m ≢ t) n p)) (pairs-before (x ∷ d) (λ y. f (λ b. R (block y) b)) a))
+            (swap-behind M l (all-cons n (rest-thread (λ t. thread m ≢ t) n p)) (pairs-before (x ∷ d) (λ y. f (λ b. R (block y) b)) a))
             (prep-all M (x ∷ d) (r R (pairs-behind (x ∷ d) a))),
       ))
 
   -- ---- one move at a time
 
   -- in front of a serial trace, the move sinks or pulls the rest of its thread to itself, or is alone
-  insert : {s u v : State} {m : Move} {l : List Move} → step s m u → Serial M u l v → Quiescent M v → Serialized M s (m ∷ l) v
+  insert : {s u v : State} {m : Move} {l : List Move} → step s m u → Serial M u l v → Quiescent M v → MadeSerial M s (m ∷ l) v
   insert {s} {u} {v} {m} {l} h q o = by-status (status u (thread m)) refl
     where
-      by-status : (σ : Status) → status u (thread m) ≡ σ → Serialized M s (m ∷ l) v
-      by-status outside e = (m ∷ l, serial-cons h (rest-nil e) q, λ R a. same)
+      by-status : (σ : Status) → status u (thread m) ≡ σ → MadeSerial M s (m ∷ l) v
+      by-status outside e = (m ∷ l, serial-cons h (rest-nil e) q, λ R a. unswapped)
       by-status beforeCommit e =
           let (k, q', _, f) = sink h e (o (thread m)) q in
           (k, q', λ R a. f R (pairs-behind (m ∷ []) a))
@@ -173,8 +176,8 @@ module _ (M : Moves) (L : Movers M) where
           let i = ends-in h (≢-via e after≢outside) in
           (m ∷ (c ++ k), serial-cons h r q', λ R a. prep (f R (subst (λ b. All (λ z. R b (block z)) l) (sym i) (pairs-head a))))
 
-  pub serialize : {s v : State} {l : List Move} → Trace M s l v → Quiescent M v → Serialized M s l v
-  serialize trace-nil o = ([], serial-nil, λ R a. same)
+  pub serialize : {s v : State} {l : List Move} → Trace M s l v → Quiescent M v → MadeSerial M s l v
+  serialize trace-nil o = ([], serial-nil, λ R a. unswapped)
   serialize (trace-cons {m} h r) o =
       let (_, q, f) = serialize r o in
       let (k, q', f') = insert h q o in

@@ -12,7 +12,7 @@ module _ (M : Moves) where
 
   -- `Permuted R l k`: from l to k by swaps of neighbours, moves of two threads whose blocks are R in their new order
   pub data Permuted (R : Block → Block → Type 0) : List Move → List Move → Type 0 where
-    same : {l : List Move} → Permuted R l l
+    unswapped : {l : List Move} → Permuted R l l
     swap : {x y : Move} {l : List Move} → thread x ≢ thread y → R (block y) (block x) → Permuted R (x ∷ y ∷ l) (y ∷ x ∷ l)
     prep : {x : Move} {l k : List Move} → Permuted R l k → Permuted R (x ∷ l) (x ∷ k)
     trans : {l k j : List Move} → Permuted R l k → Permuted R k j → Permuted R l j
@@ -30,5 +30,5 @@ module _ (M : Moves) where
         step s m u → Rest (thread m) u c v → Serial v l w → Serial s (m ∷ (c ++ l)) w
 
   -- a serial trace that allowed swaps of l lead to
-  abbrev pub Serialized : State → List Move → State → Type 1
-  Serialized s l v = (k : List Move) × Serial s k v × ((R : Block → Block → Type 0) → Ordered M R l → Permuted R l k)
+  abbrev pub MadeSerial : State → List Move → State → Type 1
+  MadeSerial s l v = (k : List Move) × Serial s k v × ((R : Block → Block → Type 0) → Ordered M R l → Permuted R l k)

@@ -1,4 +1,5 @@
--- What an accepted file's program is: each thread's code is well nested, typed, and takes only locks that there are. Assumes nothing.
+-- What an accepted file's program is: each thread's code is well nested and takes only locks that there are (`sound-nested`), and is
+-- typed, so annotated (`judged-annotated`). Assumes nothing.
 use Prim.Native.Nat.{ℕ, zero, suc, _+_, _*_, _≤_, _<_}
 use native.Mathlib.Decide.{decLt}
 use native.Mathlib.Nat.{add-zero, zero-add}
@@ -7,37 +8,38 @@ use mathlib.Core.Path.{_≡_, refl, sym, subst}
 use mathlib.Core.Logic.{dite}
 use mathlib.Core.List.{List, [], _∷_}
 use lib.ListN.{length, getD, List·getD-eq-default}
-use Rattle.judge.specs.Judging.{judge, judgeThread, judgeThreads, judgeProgram}
+use Rattle.judge.specs.Judging.{judge, judgeCode, judgeCodes, judgeProgram}
 use Rattle.judge.specs.LockSet.{empty}
-use Rattle.machine.specs.State.{codeOf}
 use Rattle.program.specs.Access.{accessOf}
 use Rattle.program.proofs.Contents.{length-instructions, getD-instructions}
 use Rattle.program.proofs.Decode.{instruction-fields}
 use Rattle.program.proofs.Structure.{nested-flat}
-use Rattle.program.specs.Choice.{fine}
+use Rattle.program.specs.Answer.{fine}
 use Rattle.program.specs.Code.{structure, structured}
-use Rattle.program.specs.Instruction.{decodeAt, instructionOf}
-use Rattle.program.specs.Layout.{Program, CodeSection, programOf, instructionsAt, threadsAt}
+use Rattle.program.specs.Instruction.{decodeAt, decodedInstruction}
+use Rattle.program.specs.Layout.{Program, CodeSection, programOf, instructionsAt, codesAt, codeOf}
+use Rattle.program.specs.Limits.{recordOffset}
 use Rattle.program.specs.Nesting.{firstBroken, atCodeEnd}
-use Rattle.program.specs.Sound.{FieldsGood, SoundFile, SoundSection, SoundSections, countAt}
-use Rattle.program.specs.WellFormed.{WellFormed, Writes}
+use Rattle.program.specs.Internal.Sound.{FieldsGood, SoundFile, SoundSection, SoundSections, countAt}
+use Rattle.program.specs.Internal.WellFormed.{WellFormed, Writes}
 use Rattle.program.specs.declared.instruction.Instruction.{Instruction}
 use Rattle.program.specs.declared.instruction.Instruction.the-variants.{Set, Copy, Add, Sub, Less, Read, Write, Take, Give, If, Else, While, Again, Atomic, End}
 use Rattle.program.specs.declared.layout.Layout.{Layout}
-use Rattle.soundness.specs.Access.{TakesBelow}
-use Rattle.soundness.specs.Instance.{Annotated}
+use Rattle.soundness.specs.Internal.Access.{TakesBelow}
+use Rattle.soundness.specs.Internal.Instance.{Annotated, ThreadsAnnotated}
 use Rattle.judge.specs.Rules.{typed-done}
-use Rattle.soundness.specs.WellNested.{noSection, TakesGood, WellNested, Derived}
+use Rattle.soundness.specs.Internal.WellNested.{noSection, TakesGood, WellNested, Derived}
 use Rattle.soundness.proofs.Annotated.{annotated}
-use Rattle.judge.proofs.Rules.{bind-inv, judge-typed}
+use Rattle.judge.proofs.Rules.{judge-typed}
+use Rattle.program.proofs.Answer.{bind-inv}
 
 -- ---- from the file: nesting, and the locks taken
 
 -- what holds of no code and of every section holds of every thread's code
 module _ (P : List Instruction → Type 0) (none : P []) (s : List ℕ) (locks variables : ℕ)
     (each : (at : ℕ) → SoundSection s locks variables at → P (instructionsAt locks variables s (countAt s at) (at + 2))) where
-  section-code : (n at m : ℕ) → SoundSections s locks variables n at m → (t : ℕ) → P (getD (threadsAt locks variables s n at) t noSection .code)
-  unfolding threadsAt
+  section-code : (n at m : ℕ) → SoundSections s locks variables n at m → (t : ℕ) → P (getD (codesAt locks variables s n at) t noSection .code)
+  unfolding codesAt
   section-code zero at m h t = none
   section-code (suc n) at m h zero = each at (h .1)
   section-code (suc n) at m h (suc t) = section-code n (at + 2 + 4 * countAt s at) (h .0) (h .3) t
@@ -64,7 +66,7 @@ takes-at : (locks variables : ℕ) (s : List ℕ) (n at : ℕ) → TakesGood loc
 takes-at locks variables s n at q = dite (decLt q n)
     (λ (h : q < n).
     subst (λ (i : Instruction). TakesBelow locks (accessOf i)) (sym (getD-instructions locks variables s n at q h))
-    (takes-good locks variables (instructionOf (decodeAt locks variables s (at + 4 * q))) (instruction-fields locks variables s (at + 4 * q))))
+    (takes-good locks variables (decodedInstruction (decodeAt locks variables s (at + 4 * q))) (instruction-fields locks variables s (at + 4 * q))))
     (λ (k : ¬ (q < n)).
     let out : length (instructionsAt locks variables s n at) ≤ q = omega (arith, length-instructions locks variables s n at) in
     subst (λ (i : Instruction). TakesBelow locks (accessOf i)) (sym (List·getD-eq-default (instructionsAt locks variables s n at) End out))
@@ -79,10 +81,10 @@ unfolding programOf codeOf
 sound-nested s l h = record {
   writes = λ t. section-code (λ (is : List Instruction). Writes is (structured is)) writes-nothing s (l .locks) (l .variables)
       (λ at x. nested-flat (instructionsAt (l .locks) (l .variables) s (countAt s at) (at + 2)) (x .nested))
-      (l .threads) (5 + 6 * l .variables) (l .instructions) (h .sections) t;
+      (l .threads) (recordOffset (l .variables)) (l .instructions) (h .sections) t;
   takes = λ t. section-code (TakesGood (l .locks)) (λ q. takes-good (l .locks) (l .variables) End tt) s (l .locks) (l .variables)
       (λ at x. takes-at (l .locks) (l .variables) s (countAt s at) (at + 2))
-      (l .threads) (5 + 6 * l .variables) (l .instructions) (h .sections) t;
+      (l .threads) (recordOffset (l .variables)) (l .instructions) (h .sections) t;
 }
 
 -- ---- from judging: derivations
@@ -91,31 +93,31 @@ derived-nothing : (p : Program) (t : ℕ) → Derived p t []
 unfolding structured structure
 derived-nothing p t = (_, _, typed-done)
 
-derived-thread : (p : Program) (t : ℕ) (section : CodeSection) {r : List ℕ} → WellFormed (structured (section .code))
-    → judgeThread p t section ≡ fine r → Derived p t (section .code)
-unfolding judgeThread
-derived-thread p t section w e =
+derived-code : (p : Program) (t : ℕ) (section : CodeSection) {r : List ℕ} → WellFormed (structured (section .code))
+    → judgeCode p t section ≡ fine r → Derived p t (section .code)
+unfolding judgeCode
+derived-code p t section w e =
     bind-inv (judge p t (section .start) empty (structured (section .code))) _ e λ r f g.
     (r .locks, r .atomicity, judge-typed p t (structured (section .code)) w (section .start) empty f)
 
-derived-threads : (p : Program) (n : ℕ) (l : List CodeSection) {r : List ℕ} → judgeThreads p n l ≡ fine r
+derived-codes : (p : Program) (n : ℕ) (l : List CodeSection) {r : List ℕ} → judgeCodes p n l ≡ fine r
     → (t : ℕ) → WellFormed (structured (getD l t noSection .code)) → Derived p (n + t) (getD l t noSection .code)
-unfolding judgeThreads
-derived-threads p n [] e t w = derived-nothing p (n + t)
-derived-threads p n (x ∷ l) e zero w =
-    bind-inv (judgeThread p n x) _ e λ r f g.
-    subst (λ (m : ℕ). Derived p m (x .code)) (sym (add-zero n)) (derived-thread p n x w f)
-derived-threads p n (x ∷ l) e (suc t) w =
-    bind-inv (judgeThread p n x) _ e λ r f g.
-    bind-inv (judgeThreads p (suc n) l) _ g λ rs f′ g′.
-    subst (λ (m : ℕ). Derived p m (getD l t noSection .code)) (omega arith) (derived-threads p (suc n) l f′ t w)
+unfolding judgeCodes
+derived-codes p n [] e t w = derived-nothing p (n + t)
+derived-codes p n (x ∷ l) e zero w =
+    bind-inv (judgeCode p n x) _ e λ r f g.
+    subst (λ (m : ℕ). Derived p m (x .code)) (sym (add-zero n)) (derived-code p n x w f)
+derived-codes p n (x ∷ l) e (suc t) w =
+    bind-inv (judgeCode p n x) _ e λ r f g.
+    bind-inv (judgeCodes p (suc n) l) _ g λ rs f′ g′.
+    subst (λ (m : ℕ). Derived p m (getD l t noSection .code)) (omega arith) (derived-codes p (suc n) l f′ t w)
 
 derived : (p : Program) {r : List ℕ} → judgeProgram p ≡ fine r → (t : ℕ) → WellFormed (structured (codeOf p t)) → Derived p t (codeOf p t)
 unfolding judgeProgram codeOf
-derived p e t w = subst (λ (m : ℕ). Derived p m (getD (p .threads) t noSection .code)) (zero-add t) (derived-threads p 0 (p .threads) e t w)
+derived p e t w = subst (λ (m : ℕ). Derived p m (getD (p .codes) t noSection .code)) (zero-add t) (derived-codes p 0 (p .codes) e t w)
 
 -- each thread of a well nested program that is judged well is annotated
-pub judged-annotated : (p : Program) {r : List ℕ} → WellNested p → judgeProgram p ≡ fine r → (t : ℕ) → Annotated p t
+pub judged-annotated : (p : Program) {r : List ℕ} → WellNested p → judgeProgram p ≡ fine r → ThreadsAnnotated p
 judged-annotated p n e t =
     let (_, _, d) = derived p e t (n .writes t .well-formed) in
-    annotated p t d (n .writes t .flat-is) (n .takes t)
+    subst (Annotated p t empty) (n .writes t .flat-is) (annotated d (subst (TakesGood (p .locks)) (sym (n .writes t .flat-is)) (n .takes t)))

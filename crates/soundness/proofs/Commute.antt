@@ -1,4 +1,7 @@
 -- Two moves with independent accesses commute. Assumes nothing.
+--     moveBy-comm, moved-named-comm                   in either order they lead to the same state
+--     instruction-other, outcome-other, inside-other  what the other thread's move leaves: the instruction, whether it moves, its block
+--     move-other, block-other                         and the names of its next move and its block
 use Prim.Native.Nat.{ℕ}
 use mathlib.Core.Path.{_≡_, sym, ap, ap₂, _∙_}
 use mathlib.Core.Logic.{_≢_, Ne·symm}
@@ -7,30 +10,30 @@ use lib.ListN.{length, getD, set}
 use lib.Seq.{getD-set-other, set-comm}
 use lib.Dec.{eqb}
 use Rattle.machine.specs.Block.{coveredFrom, inside}
-use Rattle.machine.specs.State.{State, codeOf, threadOf}
+use Rattle.machine.specs.State.{State, threadOf}
 use Rattle.program.specs.Access.{accessOf}
 use Rattle.machine.specs.Step.{waits, variablesAfter, locksAfter, threadAfter, instructionOf, moveBy, outcome}
 use Rattle.machine.specs.declared.thread.Outcome.the-variants.{Moved, Waiting, Idle}
 use Rattle.machine.specs.declared.thread.Thread.{Thread}
 use Rattle.program.specs.Choice.{choose}
-use Rattle.program.specs.Layout.{Program}
+use Rattle.program.specs.Layout.{Program, codeOf}
 use Rattle.program.specs.declared.instruction.Instruction.{Instruction}
 use Rattle.program.specs.declared.instruction.Instruction.the-variants.{End}
-use Rattle.soundness.specs.Access.{Independent}
-use Rattle.soundness.specs.Instance.{nextInstruction, nextAccess}
-use Rattle.soundness.specs.Naming.{Named, moved, movedNamed, blockOf, moveOf, finishedAfter}
-use Rattle.soundness.proofs.Move.{mover, thread-other}
+use Rattle.soundness.specs.Internal.Access.{Independent}
+use Rattle.soundness.specs.Internal.Instance.{nextInstruction, nextAccess, blockOf}
+use Rattle.soundness.specs.Naming.{Named, moved, movedNamed, moveOf, finishedAfter}
+use Rattle.soundness.proofs.Move.{threadMoved, thread-other}
 
 -- ---- of two threads of the machine
 
 -- the thread that moves second moves as it would first
-mover-second : (i j : Instruction) {t u : ℕ} (s : State) → t ≢ u → Independent (accessOf i) (accessOf j) → mover j u (moveBy i t s) ≡ mover j u s
+thread-second : (i j : Instruction) {t u : ℕ} (s : State) → t ≢ u → Independent (accessOf i) (accessOf j) → threadMoved j u (moveBy i t s) ≡ threadMoved j u s
 unfolding moveBy
-mover-second i j {t} {u} s n d = ap₂ (threadAfter j) (d .second-reads (threadOf s t .registers) (s .variables)) (thread-other i t s u (Ne·symm n))
+thread-second i j {t} {u} s n d = ap₂ (threadAfter j) (d .second-reads (threadOf s t .registers) (s .variables)) (thread-other i t s u (Ne·symm n))
 
-mover-first : (i j : Instruction) {t u : ℕ} (s : State) → t ≢ u → Independent (accessOf i) (accessOf j) → mover i t (moveBy j u s) ≡ mover i t s
+thread-first : (i j : Instruction) {t u : ℕ} (s : State) → t ≢ u → Independent (accessOf i) (accessOf j) → threadMoved i t (moveBy j u s) ≡ threadMoved i t s
 unfolding moveBy
-mover-first i j {t} {u} s n d = ap₂ (threadAfter i) (d .first-reads (threadOf s u .registers) (s .variables)) (thread-other j u s t n)
+thread-first i j {t} {u} s n d = ap₂ (threadAfter i) (d .first-reads (threadOf s u .registers) (s .variables)) (thread-other j u s t n)
 
 pub moveBy-comm : (i j : Instruction) {t u : ℕ} (s : State) → t ≢ u → Independent (accessOf i) (accessOf j)
     → moveBy j u (moveBy i t s) ≡ moveBy i t (moveBy j u s)
@@ -43,9 +46,9 @@ moveBy-comm i j {t} {u} s n d =
     ∙ d .variables (threadOf s t .registers) (threadOf s u .registers) (s .variables)
     ∙ sym (ap (λ (th : Thread). variablesAfter (accessOf i) (th .registers) (two .variables)) (thread-other j u s t n)) in
     let threads =
-    ap (set (one .threads) u) (mover-second i j s n d)
-    ∙ set-comm (s .threads) t u (mover i t s) (mover j u s) n
-    ∙ sym (ap (set (two .threads) t) (mover-first i j s n d)) in
+    ap (set (one .threads) u) (thread-second i j s n d)
+    ∙ set-comm (s .threads) t u (threadMoved i t s) (threadMoved j u s) n
+    ∙ sym (ap (set (two .threads) t) (thread-first i j s n d)) in
     λ k. record { variables = variables k; locks = d .locks t u (s .locks) k; threads = threads k }
 
 -- whether the other thread can move stays the same

@@ -1,60 +1,43 @@
--- Demand 3 (`demand3`), and with the same moves of each thread and the blocks' order (`demand3-in-order`). Assumes nothing.
+-- Demand 3 (`demand3`); each thread's number of moves (`same-counts`). Assumes nothing.
 use Prim.Native.Nat.{ℕ}
-use native.Mathlib.Omega.{arith}
-use mathlib.Core.Path.{_≡_, refl, sym, ap, _∙_, subst}
+use mathlib.Core.Path.{_≡_, sym, ap, _∙_, subst}
 use mathlib.Core.List.{List}
 use lib.ListN.{length}
-use Rattle.judge.specs.Acceptance.{Accepted, accept, sound, programRead}
+use Rattle.judge.specs.Acceptance.{Accepted, accept, sound}
 use Rattle.judge.specs.Judging.{judgeProgram}
 use Rattle.program.proofs.Sound.{sound-file}
-use Rattle.program.specs.Choice.{fine}
+use Rattle.program.specs.Answer.{fine}
 use Rattle.program.specs.Layout.{Program, programOf, reading}
-use Rattle.program.specs.declared.layout.Layout.{Layout}
-use Rattle.program.specs.declared.layout.Reading.{Reading}
-use Rattle.program.specs.declared.layout.Reading.the-variants.{Sound, Refused}
-use Rattle.soundness.specs.Demand.{Demand3}
-use Rattle.soundness.specs.Instance.{Annotated}
-use Rattle.soundness.specs.Naming.{Move, moves}
-use Rattle.soundness.specs.Order.{movesOf, SerializedInOrder, Demand3InOrder}
-use Rattle.soundness.specs.WellNested.{WellNested}
+use Rattle.soundness.specs.Demand.{Serialized, Demand3}
+use Rattle.soundness.specs.Internal.Instance.{ThreadsAnnotated}
+use Rattle.soundness.specs.Naming.{Move, moves, movesOf}
+use Rattle.soundness.specs.Internal.WellNested.{WellNested}
 use Rattle.soundness.proofs.Accepted.{sound-nested, judged-annotated}
 use Rattle.soundness.proofs.Serialize.{serialized}
-use Rattle.judge.proofs.Rules.{bind-inv}
+use Rattle.program.proofs.Answer.{fine-inj, bind-inv}
 
--- a sound file's program is that of its layout
-sound-reading : {C : Type 0} (file : List ℕ) (r : Reading) {p : Program} → programRead file r ≡ fine p
-    → ((l : Layout) → r ≡ Sound l → programOf file l ≡ p → C) → C
-sound-reading file (Sound l) e k = k l refl (cc)
-sound-reading file (Refused r) e k = absurd (let z : _≡_ {A = ℕ} 0 1 = cc in omega arith)
+-- a sound file's program is well nested
+program-nested : (file : List ℕ) {p : Program} → sound file ≡ fine p → WellNested p
+unfolding sound
+program-nested file {p} e =
+    bind-inv (reading file) _ e λ l reads answer.
+    subst WellNested (fine-inj (programOf file l) p answer) (sound-nested file l (sound-file file l reads))
 
 -- every accepted program's threads are annotated
-accepted-annotated : (file : List ℕ) (a : Accepted) → accept file ≡ fine a → (t : ℕ) → Annotated (a .program) t
-unfolding accept sound
+accepted-annotated : (file : List ℕ) (a : Accepted) → accept file ≡ fine a → ThreadsAnnotated (a .program)
+unfolding accept
 accepted-annotated file a e =
-    bind-inv (programRead file (reading file)) _ e λ p e₁ f₁.
+    bind-inv (sound file) _ e λ p e₁ f₁.
     bind-inv (judgeProgram p) _ f₁ λ report e₂ f₂.
-    let same : p ≡ a .program = cc in
-    sound-reading file (reading file) e₁ λ l h q.
-    let nested = subst WellNested (q ∙ same) (sound-nested file l (sound-file file l h)) in
+    let same : p ≡ a .program = ap (λ (a : Accepted). a .program) (fine-inj _ a f₂) in
+    let nested = subst WellNested same (program-nested file e₁) in
     judged-annotated (a .program) nested (ap judgeProgram (sym same) ∙ e₂)
 
-pub demand3-in-order : (file : List ℕ) → Demand3InOrder file
-unfolding Demand3InOrder
-demand3-in-order file a e list threads nobody = serialized (a .program) (accepted-annotated file a e) list nobody
-
 pub demand3 : (file : List ℕ) → Demand3 file
-unfolding Demand3 Demand3InOrder
-demand3 file a e list threads nobody =
-    let r = demand3-in-order file a e list threads nobody in
-    record {
-      serial = r .serial;
-      threads = r .threads;
-      uninterrupted = r .uninterrupted;
-      same-state = r .same-state;
-      same-moved = r .same-moved;
-    }
+unfolding Demand3
+demand3 file a e list threads nobody = serialized (a .program) (accepted-annotated file a e) list threads nobody
 
 -- each thread's number of moves is the same
-pub same-counts : {p : Program} {list : List ℕ} (r : SerializedInOrder p list) (t : ℕ)
+pub same-counts : {p : Program} {list : List ℕ} (r : Serialized p list) (t : ℕ)
     → length (movesOf t (moves p (r .serial))) ≡ length (movesOf t (moves p list))
 same-counts r t = ap (λ (l : List Move). length l) (r .same-moves t)

@@ -1,5 +1,7 @@
--- Demand 3 is not empty: its premises hold of a file and a list that interleaves two blocks (`adders-interrupted`), so that the list that
--- it promises is another (`adders-serialized`). Computed. Assumes nothing.
+-- Demand 3 is not empty: its premises hold of a file and a list that interleaves two blocks. Computed. Assumes nothing.
+--     adders-sum           after the list both threads have added 1
+--     adders-interrupted   the premises hold, and the list is not itself the one that is promised
+--     adders-serialized    the list that is promised is another
 use Prim.Native.Nat.{ℕ, zero, suc, _<_}
 use native.Mathlib.Omega.{arith}
 use mathlib.Core.Path.{_≡_, refl, subst}
@@ -9,28 +11,30 @@ use mathlib.Core.List.{List, [], _∷_}
 use lib.ListN.{length, getD}
 use lib.Dec.{T, ltb, ltb→lt, lit<}
 use Rattle.atomicity.specs.Atomicity.{composition, join}
-use Rattle.program.specs.Choice.{firstBad, fine}
+use Rattle.program.proofs.Differ.{differ}
+use Rattle.program.specs.Answer.{fine}
+use Rattle.program.specs.Choice.{firstBad}
 use Rattle.program.specs.Field.{present, byteField, pairField, section}
 use Rattle.program.specs.Variable.{recorded, recordAt, variableAt}
 use Rattle.program.specs.Instruction.{decode, decodeAt, formOf}
 use Rattle.program.specs.Nesting.{named, unnamed, opening, passing, atElse, atAgain, atEnd, nest, atCodeEnd, firstBroken}
-use Rattle.program.specs.Layout.{instructionsAt, variablesAt, threadsAt, programOf, variableSection, codeSection, codeSections, fields, reading}
+use Rattle.program.specs.Layout.{instructionsAt, variablesAt, codesAt, programOf, variableSection, codeSection, codeSections, fields, reading, codeOf}
 use Rattle.program.specs.Code.{size, elseDistance, structure, structured}
 use Rattle.judge.specs.LockSet.{empty, holds, withLock, withoutLock, sameFlags, same}
-use Rattle.judge.specs.Discipline.{kindAt, permits, lockSetAfter, locksAfter, accessAtomicity, accessMover, atomicityOf}
-use Rattle.judge.specs.Judging.{isTop, judge, judgeThread, judgeThreads, judgeProgram}
+use Rattle.judge.specs.Discipline.{kindAt, permits, accessedSet, lockSetAfter, accessAtomicity, accessMover, moverOf, atomicityOf}
+use Rattle.judge.specs.Judging.{isTop, judge, judgeCode, judgeCodes, judgeProgram}
 use Rattle.judge.specs.Acceptance.{sound, accept}
-use Rattle.machine.specs.State.{fresh, start, codeOf, threadOf}
+use Rattle.machine.specs.State.{fresh, start, threadOf}
 use Rattle.program.specs.Access.{accessOf}
-use Rattle.machine.specs.Step.{waits, valueRead, variablesAfter, locksAfter as machine-locksAfter, registersAfter, branch, placeAfter, threadAfter, instructionOf, moveBy, outcome, step}
+use Rattle.machine.specs.Step.{waits, valueRead, variablesAfter, locksAfter, registersAfter, branch, placeAfter, placeBehind, threadAfter, instructionOf, moveBy, outcome, step}
 use Rattle.machine.specs.Run.{Entries, runFrom, run}
 use Rattle.machine.specs.Block.{covers, coveredFrom, inside, OthersOutside, NobodyInside, UninterruptedFrom, Uninterrupted}
 use Rattle.soundness.specs.Demand.{ThreadsOf, Serialized}
-use Rattle.soundness.specs.Example.{adder, adders, interleaving, Interrupted, acceptedOf}
+use Rattle.soundness.specs.Internal.Example.{adder, adders, interleaving, Interrupted, acceptedOf}
 
 -- all definitions open
 unfoldable definitions : Unit {0}
-unfolding composition join firstBad present byteField pairField section recorded recordAt variableAt decode decodeAt formOf named unnamed opening passing atElse atAgain atEnd nest atCodeEnd firstBroken instructionsAt variablesAt threadsAt programOf variableSection codeSection codeSections fields reading size elseDistance structure structured empty holds withLock withoutLock sameFlags same kindAt permits lockSetAfter locksAfter accessAtomicity accessMover atomicityOf isTop judge judgeThread judgeThreads judgeProgram sound accept fresh start codeOf threadOf accessOf waits valueRead variablesAfter machine-locksAfter registersAfter branch placeAfter threadAfter instructionOf moveBy outcome step runFrom run covers coveredFrom inside OthersOutside NobodyInside UninterruptedFrom Uninterrupted Entries adder adders interleaving acceptedOf
+unfolding composition join firstBad present byteField pairField section recorded recordAt variableAt decode decodeAt formOf named unnamed opening passing atElse atAgain atEnd nest atCodeEnd firstBroken instructionsAt variablesAt codesAt programOf variableSection codeSection codeSections fields reading size elseDistance structure structured empty holds withLock withoutLock sameFlags same kindAt permits accessedSet lockSetAfter accessAtomicity accessMover moverOf atomicityOf isTop judge judgeCode judgeCodes judgeProgram sound accept fresh start codeOf threadOf accessOf waits valueRead variablesAfter locksAfter registersAfter branch placeAfter placeBehind threadAfter instructionOf moveBy outcome step runFrom run covers coveredFrom inside OthersOutside NobodyInside UninterruptedFrom Uninterrupted Entries adder adders interleaving acceptedOf
 definitions = tt
 
 -- each entry is below n
@@ -73,7 +77,7 @@ adders-nobody (suc (suc u)) h = absurd (omega arith)
 -- thread 1 moves while thread 0 stands inside its block
 adders-uninterrupted : Uninterrupted (acceptedOf (accept adders) .program) interleaving → ⊥
 unfolding definitions
-adders-uninterrupted h = let e : true ≡ false = h .2 .1 0 (lit< tt) (λ e. omega arith) in let z : _≡_ {A = ℕ} 0 1 = cc in omega arith
+adders-uninterrupted h = let e : true ≡ false = h .2 .1 0 (lit< tt) (λ e. omega arith) in differ cc
 
 pub adders-interrupted : Interrupted adders interleaving
 adders-interrupted = record {

@@ -1,221 +1,121 @@
--- Wherever a thread goes from a place of typed code, the row there follows (`flow`). Assumes nothing.
-use Prim.Native.Nat.{ℕ, suc, _+_, _≤_, _<_}
-use native.Mathlib.Omega.{arith}
+-- The labels of typed code. Assumes nothing.
+--     leads-exactly   code that ends with a lock set and a prefix may go on at the label that says so
+--     begun           typed code is begun as its labels say
+--     flow            and each of its moves follows
+use Prim.Native.Nat.{ℕ, _+_}
 use mathlib.Core.Path.{_≡_, refl, sym, ap, _∙_, subst}
-use mathlib.Core.Bool.{Bool, true, false}
-use mathlib.Core.List.{List}
-use lib.Dec.{eqb}
 use Rattle.atomicity.specs.Atomicity.{composition, join, closure}
 use Rattle.atomicity.specs.declared.Atomicity.{Atomicity}
 use Rattle.atomicity.specs.declared.Atomicity.the-variants.{Both}
-use Rattle.judge.specs.Discipline.{lockSetAfter, locksAfter, accessMover, atomicityOf}
-use Rattle.program.specs.Access.{accessOf}
-use Rattle.judge.specs.declared.lock_set.LockSet.{LockSet}
-use Rattle.machine.specs.Step.{placeAfter, branch, reg}
-use Rattle.program.specs.Choice.{fine, choose}
-use Rattle.program.specs.Code.{Code, size}
-use Rattle.program.specs.Instruction.{formOf}
-use Rattle.program.specs.Layout.{Program}
-use Rattle.program.specs.declared.instruction.Form.the-variants.{Plain}
-use Rattle.program.specs.declared.instruction.Instruction.{Instruction}
-use Rattle.program.specs.declared.instruction.Instruction.the-variants.{Set, Copy, Add, Sub, Less, Read, Write, Take, Give, If, Else, While, Again, Atomic, End}
-use Rattle.soundness.specs.Annotation.{Row, row, rows, Reads, Span, Follows, Leads, FlowsFrom, Flows, Part}
-use Rattle.soundness.specs.Prefix.{Prefix, behind, entered, Below, Proper}
+use Rattle.judge.specs.Discipline.{accessedSet, lockSetAfter, accessMover, moverOf, atomicityOf}
 use Rattle.judge.specs.Rules.{Legal, Typed, typed-done, typed-plain, typed-choice, typed-loop, typed-block}
-use Rattle.soundness.proofs.Annotation.{reads-plain, reads-choice, reads-loop, reads-block, span-empty, span-one, span-join}
+use Rattle.judge.specs.declared.lock_set.LockSet.{LockSet}
+use Rattle.program.specs.Access.{Access, none, accessOf}
+use Rattle.program.specs.Answer.{fine}
+use Rattle.program.specs.Code.{Code, size}
+use Rattle.program.specs.Layout.{Program}
+use Rattle.program.specs.declared.instruction.Instruction.{Instruction}
+use Rattle.program.specs.declared.instruction.Instruction.the-variants.{If, Else, While, Again, Atomic, End}
+use Rattle.reduction.specs.Sequence.{All, all-nil, all-cons}
+use Rattle.reduction.proofs.Sequence.{all-append}
+use Rattle.soundness.specs.Internal.Flow.{Label, label, labelled, Follows, Leads}
+use Rattle.soundness.specs.Internal.Labelled.{Condition, always, edge, begins, edges}
+use Rattle.soundness.specs.Internal.Prefix.{Prefix, behind, entered, Below, Proper, Goes}
 use Rattle.soundness.proofs.Prefix.{behind-both, behind-behind, below-refl, below-behind, below-first, below-second, below-turn, proper-below, goes-behind, goes-in, goes-out, proper-entered}
 
--- a plain instruction goes to the next place
-plain-next : (i : Instruction) → formOf i ≡ Plain → (r : List ℕ) (q : ℕ) → placeAfter i r q ≡ q + 1
-unfolding formOf placeAfter
-plain-next (Set a n) e r q = refl
-plain-next (Copy a b) e r q = refl
-plain-next (Add a b c) e r q = refl
-plain-next (Sub a b c) e r q = refl
-plain-next (Less a b c) e r q = refl
-plain-next (Read a v) e r q = refl
-plain-next (Write a v) e r q = refl
-plain-next (Take k) e r q = refl
-plain-next (Give k) e r q = refl
-plain-next (If a n) e r q = absurd (let z : _≡_ {A = ℕ} 0 1 = cc in omega arith)
-plain-next (Else n) e r q = absurd (let z : _≡_ {A = ℕ} 0 1 = cc in omega arith)
-plain-next (While a n) e r q = absurd (let z : _≡_ {A = ℕ} 0 1 = cc in omega arith)
-plain-next (Again n) e r q = absurd (let z : _≡_ {A = ℕ} 0 1 = cc in omega arith)
-plain-next (Atomic n) e r q = refl
-plain-next End e r q = refl
+-- ---- the end of code
 
--- IF and WHILE go to one of two places
-branches : (P : ℕ → Type 0) (r : List ℕ) (a n q : ℕ) → P (q + n + 1) → P (q + 1) → P (branch r a n q)
-unfolding branch
-branches P r a n q x y = by-test (eqb (reg r a) 0)
-  where
-    by-test : (b : Bool) → P (choose b (q + n + 1) (q + 1))
-    by-test true = x
-    by-test false = y
+pub leads-exactly : (s : LockSet) (m : Prefix) → Leads s m (label s m)
+leads-exactly s m = record { same-locks = refl; below = below-refl m }
 
-module _ (p : Program) (t : ℕ) where
+leads-below : {s : LockSet} {m n : Prefix} → Below m n → Leads s m (label s n)
+leads-below b = record { same-locks = refl; below = b }
+
+leads-then : {s : LockSet} {to : Label} (m : Prefix) (a b : Atomicity) → Leads s (behind m (composition a b)) to → Leads s (behind (behind m a) b) to
+leads-then m a b k = rw (behind-behind m a b) k
+
+proper-then : (m : Prefix) (a b : Atomicity) → Proper (behind m (composition a b)) → Proper (behind (behind m a) b)
+proper-then m a b k = rw (behind-behind m a b) k
+
+proper-first : (m : Prefix) (a b : Atomicity) → Proper (behind m (composition a b)) → Proper (behind m a)
+proper-first m a b k = proper-below (below-behind (behind m a) b) (proper-then m a b k)
+
+module _ {p : Program} {t : ℕ} where
+  -- where the code begins
+  pub begun : {s s′ : LockSet} {c : Code} {a : Atomicity} (d : Typed p t s c s′ a) (m : Prefix) (next : Label)
+      → Leads s′ (behind m a) next → Leads s m (begins (labelled d m) next)
+  unfolding labelled
+  begun {s} typed-done m next exit = subst (λ (n : Prefix). Leads s n next) (behind-both m) exit
+  begun {s} (typed-plain f l d) m next exit = leads-exactly s m
+  begun {s} (typed-choice d₁ d₂ d) m next exit = leads-exactly s m
+  begun {s} (typed-loop {x} d₁ d) m next exit = leads-below (below-behind m (closure x))
+  begun {s} (typed-block d₁ n d) m next exit = leads-exactly s m
+
   -- ---- one move
 
-  -- an opener or closer keeps the lock set
-  keeps : (i : Instruction) {s s′ : LockSet} → locksAfter p t 0 i s ≡ fine s → s ≡ s′ → Legal p t i s s′
-  keeps i e k = record { offset = 0; judged = e ∙ ap fine k }
-
-  -- an opener or closer that goes on in the same block is B
-  silent : (i : Instruction) {s : LockSet} {m : Prefix} {to : Row} → locksAfter p t 0 i s ≡ fine s → atomicityOf p t i ≡ Both
-      → Leads s m to → Proper m → Follows p t (row i s m) to
-  silent i {m} l e k h = record {
-    legal = keeps i l (k .same);
-    goes = rw e (goes-behind m (rw (behind-both m) (k .below)) (rw (behind-both m) h));
+  -- of an opener or closer, which accesses nothing: it keeps the lock set, and is B
+  silent : (i : Instruction) (o : Condition) {s : LockSet} {m : Prefix} {to : Label} → accessOf i ≡ none → s ≡ to .locks → Goes Both m (to .prefix)
+      → Follows p t (edge i (label s m) o to)
+  unfolding lockSetAfter accessedSet moverOf accessMover
+  silent i o {s} {m} {to} e k g = record {
+    legal = record { offset = 0; judged = ap (λ (x : Access). accessedSet p t 0 x s) e ∙ ap fine k };
+    goes = subst (λ (x : Access). Goes (accessMover p t s x) m (to .prefix)) (sym e) g;
   }
 
-  module _ (h : ℕ → Row) (last : ℕ) where
-    -- the move arrives at a place of the code, and the row there follows
-    abbrev Arrives : Row → ℕ → Type 0
-    Arrives from to = Follows p t from (h to) × (to ≤ last)
+  -- one that goes on in the same block
+  goes-on-silent : (i : Instruction) (o : Condition) {s : LockSet} {m : Prefix} {to : Label} → accessOf i ≡ none → Proper m → Leads s m to
+      → Follows p t (edge i (label s m) o to)
+  goes-on-silent i o {m} e h k = silent i o e (k .same-locks) (goes-behind m (rw (behind-both m) (k .below)) (rw (behind-both m) h))
 
-    -- the same place, said otherwise
-    arrives-at : {from : Row} {to to′ : ℕ} → to ≡ to′ → Follows p t from (h to) → to ≤ last → Arrives from to′
-    arrives-at {from} e f b = subst (Arrives from) e (f, b)
+  -- a plain instruction
+  straight-on : {i : Instruction} {s s′ : LockSet} {m : Prefix} {to : Label} → Legal p t i s s′ → Proper (behind m (atomicityOf p t s i))
+      → Leads s′ (behind m (atomicityOf p t s i)) to → Follows p t (edge i (label s m) always to)
+  unfolding atomicityOf
+  straight-on {i} {s} {m} l h k = record { legal = subst (Legal p t i s) (k .same-locks) l; goes = goes-behind m (k .below) h }
 
-    abbrev Moves : ℕ → ℕ → Type 0
-    Moves = Span (Flows p t h last)
+  -- ---- every move
 
-    -- the move from place q
-    move : {from : Row} (q : ℕ) → h q ≡ from → FlowsFrom p t h last from q → Moves q (suc q)
-    move q e f = span-one (Flows p t h last) q (subst (λ (r : Row). FlowsFrom p t h last r q) (sym e) f)
-
-    -- moves, and then moves
-    infixr 5 _then_
-    _then_ : {w u v : ℕ} → Moves w u → Moves u v → Moves w v
-    x then y = span-join (Flows p t h last) x y
-
-    -- code may go on at what is read there
-    leads-at : {s : LockSet} {i : Instruction} {m n : Prefix} {q : ℕ} → h q ≡ row i s n → Below m n → Leads s m (h q)
-    leads-at {s} {m} e l = subst (Leads s m) (sym e) (record { same = refl; below = l })
-
-    abbrev CodeAt : LockSet → Prefix → ℕ → ℕ → Type 0
-    CodeAt = Part p t h last
-
-    -- ---- each construct, from its parts
-
-    done-part : {s : LockSet} {m : Prefix} {w : ℕ} → Leads s (behind m Both) (h w) → CodeAt s m w w
-    done-part {s} {m} {w} l = record { begun = subst (λ (n : Prefix). Leads s n (h w)) (behind-both m) l; moves = span-empty (Flows p t h last) w }
-
-    plain-part : {i : Instruction} {s s′ : LockSet} {m : Prefix} {w v : ℕ} → formOf i ≡ Plain → Legal p t i s s′ → h w ≡ row i s m
-        → Proper (behind m (atomicityOf p t i)) → w < last → CodeAt s′ (behind m (atomicityOf p t i)) (suc w) v → CodeAt s m w v
-    plain-part {i} {s} {m} {w} f l h₁ proper b rest =
-        let follows : Follows p t (row i s m) (h (suc w)) =
-        record { legal = subst (Legal p t i s) (rest .begun .same) l; goes = goes-behind m (rest .begun .below) proper } in
-        record {
-          begun = leads-at h₁ (below-refl m);
-          moves = move w h₁ (λ r. arrives-at (omega (arith, plain-next i f r w)) follows b) then rest .moves;
-        }
-
-    choice-part : {r n k : ℕ} {s s′ : LockSet} {m : Prefix} (x y : Atomicity) {w e f v : ℕ}
-        → h w ≡ row (If r n) s m → w + n ≡ e → CodeAt s m (suc w) e
-        → h e ≡ row (Else k) s′ (behind m x) → e + k ≡ f → CodeAt s m (suc e) f
-        → h f ≡ row End s′ (behind m (join x y)) → f < last → CodeAt s′ (behind m (join x y)) (suc f) v
-        → Proper (behind m (join x y)) → CodeAt s m w v
-    unfolding placeAfter locksAfter lockSetAfter atomicityOf accessMover accessOf
-    choice-part {r} {n} {k} {m} x y {w} {e} {f} h₁ e₁ first h₂ e₂ second h₃ b rest proper =
-        let proper₁ = proper-below (below-first m x y) proper in
-        let proper₀ = proper-below (below-behind m x) proper₁ in
-        record {
-          begun = leads-at h₁ (below-refl m);
-          moves =
-              move w h₁ (λ g. branches (Arrives _) g r n w
-              (arrives-at (omega arith) (silent (If r n) refl refl (second .begun) proper₀) (omega arith))
-              (arrives-at (omega arith) (silent (If r n) refl refl (first .begun) proper₀) (omega arith)))
-              then first .moves
-              then move e h₂ (λ g. arrives-at (sym e₂) (silent (Else k) refl refl (leads-at h₃ (below-first m x y)) proper₁) (omega arith))
-              then second .moves
-              then move f h₃ (λ g. arrives-at (omega arith) (silent End refl refl (rest .begun) proper) b)
-              then rest .moves;
-        }
-
-    loop-part : {r n : ℕ} {s : LockSet} (m : Prefix) (x : Atomicity) {w e v : ℕ}
-        → h w ≡ row (While r n) s (behind m (closure x)) → w + n ≡ e → CodeAt s (behind m (closure x)) (suc w) e
-        → h e ≡ row (Again n) s (behind (behind m (closure x)) x) → e < last → CodeAt s (behind m (closure x)) (suc e) v
-        → Proper (behind m (closure x)) → CodeAt s m w v
-    unfolding placeAfter locksAfter lockSetAfter atomicityOf accessMover accessOf
-    loop-part {r} {n} m x {w} {e} h₁ e₁ body h₂ b rest proper = record {
-      begun = leads-at h₁ (below-behind m (closure x));
-      moves =
-          move w h₁ (λ g. branches (Arrives _) g r n w
-          (arrives-at (omega arith) (silent (While r n) refl refl (rest .begun) proper) b)
-          (arrives-at (omega arith) (silent (While r n) refl refl (body .begun) proper) (omega arith)))
-          then body .moves
-          then move e h₂ (λ g. arrives-at (omega arith)
-          (silent (Again n) refl refl (leads-at h₁ (below-turn m x)) (proper-below (below-turn m x) proper)) (omega arith))
-          then rest .moves;
-    }
-
-    block-part : {n : ℕ} {s s′ : LockSet} (m : Prefix) (x : Atomicity) {w e v : ℕ}
-        → h w ≡ row (Atomic n) s m → w + n ≡ e → CodeAt s (entered m) (suc w) e
-        → h e ≡ row End s′ (behind (entered m) x) → e < last → CodeAt s′ (behind m x) (suc e) v
-        → Proper (behind m x) → CodeAt s m w v
-    unfolding placeAfter locksAfter lockSetAfter atomicityOf accessMover accessOf
-    block-part {n} m x {w} {e} h₁ e₁ body h₂ b rest proper =
-        let proper₀ = proper-below (below-behind m x) proper in
-        record {
-          begun = leads-at h₁ (below-refl m);
-          moves =
-              move w h₁ (λ g. arrives-at (omega arith)
-              (record { legal = keeps (Atomic n) refl (body .begun .same); goes = goes-in m (body .begun .below) proper₀ }) (omega arith))
-              then body .moves
-              then move e h₂ (λ g. arrives-at (omega arith)
-              (record { legal = keeps End refl (rest .begun .same); goes = goes-out m x (rest .begun .below) proper }) b)
-              then rest .moves;
-        }
-
-    -- ---- the whole code
-
-    proper-then : (m : Prefix) (a b : Atomicity) → Proper (behind m (composition a b)) → Proper (behind (behind m a) b)
-    proper-then m a b k = rw (behind-behind m a b) k
-
-    proper-first : (m : Prefix) (a b : Atomicity) → Proper (behind m (composition a b)) → Proper (behind m a)
-    proper-first m a b k = proper-below (below-behind (behind m a) b) (proper-then m a b k)
-
-    leads-then : {s : LockSet} {to : Row} (m : Prefix) (a b : Atomicity) → Leads s (behind m (composition a b)) to
-        → Leads s (behind (behind m a) b) to
-    leads-then m a b k = rw (behind-behind m a b) k
-
-    -- typed code that is read from place w to before v, and may go on at v
-    pub flow : {s s′ : LockSet} {c : Code} {a : Atomicity} (d : Typed p t s c s′ a) (m : Prefix) (w v : ℕ) → w + size c ≡ v
-        → Reads h w (rows d m) → Leads s′ (behind m a) (h v) → v ≤ last → Proper (behind m a) → Part p t h last s m w v
-    unfolding size
-    flow {s} typed-done m w v e r exit fits proper =
-        let here : v ≡ w = omega arith in
-        subst (Part p t h last s m w) (sym here) (done-part (subst (λ (q : ℕ). Leads s (behind m Both) (h q)) here exit))
-    flow (typed-plain {i} {a} f l d) m w v e r exit fits proper =
-        let x = atomicityOf p t i in
-        reads-plain m f l d r λ h₀ r₁.
-        plain-part f l h₀ (proper-first m x a proper) (omega arith)
-        (flow d (behind m x) (suc w) v (omega arith) r₁ (leads-then m x a exit) fits (proper-then m x a proper))
-    flow (typed-choice {a} {b} {x} {y} {z} d₁ d₂ d) m w v e r exit fits proper =
-        let proper₀ = proper-first m (join x y) z proper in
-        reads-choice m d₁ d₂ d r λ h₀ r₁ h₁ r₂ h₂ r₃.
-        choice-part x y h₀ (omega arith)
-        (flow d₁ m _ _ refl r₁ (leads-at h₁ (below-refl (behind m x))) (omega arith) (proper-below (below-first m x y) proper₀))
-        h₁ (omega arith)
-        (flow d₂ m _ _ refl r₂ (leads-at h₂ (below-second m x y)) (omega arith) (proper-below (below-second m x y) proper₀))
-        h₂ (omega arith)
-        (flow d (behind m (join x y)) _ v (omega arith) r₃ (leads-then m (join x y) z exit) fits (proper-then m (join x y) z proper))
-        proper₀
-    flow (typed-loop {a} {x} {z} d₁ d) m w v e r exit fits proper =
-        let n = behind m (closure x) in
-        let proper₀ = proper-first m (closure x) z proper in
-        reads-loop m d₁ d r λ h₀ r₁ h₁ r₂.
-        loop-part m x h₀ (omega arith)
-        (flow d₁ n _ _ refl r₁ (leads-at h₁ (below-refl (behind n x))) (omega arith) (proper-below (below-turn m x) proper₀))
-        h₁ (omega arith)
-        (flow d n _ v (omega arith) r₂ (leads-then m (closure x) z exit) fits (proper-then m (closure x) z proper))
-        proper₀
-    flow (typed-block {a} {x} {z} d₁ top d) m w v e r exit fits proper =
-        let proper₀ = proper-first m x z proper in
-        reads-block m d₁ top d r λ h₀ r₁ h₁ r₂.
-        block-part m x h₀ (omega arith)
-        (flow d₁ (entered m) _ _ refl r₁ (leads-at h₁ (below-refl (behind (entered m) x))) (omega arith) (proper-entered m x top proper₀))
-        h₁ (omega arith)
-        (flow d (behind m x) _ v (omega arith) r₂ (leads-then m x z exit) fits (proper-then m x z proper))
-        proper₀
+  pub flow : {s s′ : LockSet} {c : Code} {a : Atomicity} (d : Typed p t s c s′ a) (m : Prefix) (next : Label)
+      → Leads s′ (behind m a) next → Proper (behind m a) → All (Follows p t) (edges (labelled d m) next)
+  unfolding labelled edges accessOf
+  flow typed-done m next exit proper = all-nil
+  flow {s} (typed-plain {i} {a} f l d) m next exit proper =
+      let x = atomicityOf p t s i in
+      all-cons (straight-on l (proper-first m x a proper) (begun d (behind m x) next (leads-then m x a exit)))
+      (flow d (behind m x) next (leads-then m x a exit) (proper-then m x a proper))
+  flow {s} (typed-choice {r} {a} {b} {s′} {x} {y} {z} d₁ d₂ d) m next exit proper =
+      let n = behind m (join x y) in
+      let proper₀ = proper-first m (join x y) z proper in
+      let proper₁ = proper-below (below-first m x y) proper₀ in
+      let proper₂ = proper-below (below-second m x y) proper₀ in
+      let here = proper-below (below-behind m x) proper₁ in
+      let exit₁ = leads-exactly s′ (behind m x) in
+      let exit₂ : Leads s′ (behind m y) (label s′ n) = leads-below (below-second m x y) in
+      let exit₃ = leads-then m (join x y) z exit in
+      all-cons (goes-on-silent (If r (size a + 1)) _ refl here (begun d₁ m _ exit₁))
+      (all-cons (goes-on-silent (If r (size a + 1)) _ refl here (begun d₂ m _ exit₂))
+      (all-cons (goes-on-silent (Else (size b + 1)) _ refl proper₁ (leads-below (below-first m x y)))
+      (all-cons (goes-on-silent End _ refl proper₀ (begun d n next exit₃))
+      (all-append (flow d₁ m _ exit₁ proper₁)
+      (all-append (flow d₂ m _ exit₂ proper₂)
+      (flow d n next exit₃ (proper-then m (join x y) z proper)))))))
+  flow {s} (typed-loop {r} {a} {x} {z} d₁ d) m next exit proper =
+      let n = behind m (closure x) in
+      let proper₀ = proper-first m (closure x) z proper in
+      let proper₁ = proper-below (below-turn m x) proper₀ in
+      let exit₁ = leads-exactly s (behind n x) in
+      let exit₂ = leads-then m (closure x) z exit in
+      all-cons (goes-on-silent (While r (size a + 1)) _ refl proper₀ (begun d₁ n _ exit₁))
+      (all-cons (goes-on-silent (While r (size a + 1)) _ refl proper₀ (begun d n next exit₂))
+      (all-cons (goes-on-silent (Again (size a + 1)) _ refl proper₁ (leads-below (below-turn m x)))
+      (all-append (flow d₁ n _ exit₁ proper₁)
+      (flow d n next exit₂ (proper-then m (closure x) z proper)))))
+  flow {s} (typed-block {a} {s′} {x} {z} d₁ top d) m next exit proper =
+      let proper₀ = proper-first m x z proper in
+      let exit₁ = leads-exactly s′ (behind (entered m) x) in
+      let start₁ = begun d₁ (entered m) _ exit₁ in
+      let start = begun d (behind m x) next (leads-then m x z exit) in
+      all-cons (silent (Atomic (size a + 1)) _ refl (start₁ .same-locks) (goes-in m (start₁ .below) (proper-below (below-behind m x) proper₀)))
+      (all-cons (silent End _ refl (start .same-locks) (goes-out m x (start .below) proper₀))
+      (all-append (flow d₁ (entered m) _ exit₁ (proper-entered m x top proper₀))
+      (flow d (behind m x) next (leads-then m x z exit) (proper-then m x z proper))))

@@ -16,12 +16,13 @@ use Rattle.atomicity.specs.declared.Atomicity.the-variants as atomicity
 use Rattle.judge.specs.Discipline.{kindAt, permits, accessAtomicity, accessMover}
 use Rattle.judge.specs.LockSet.{holds}
 use Rattle.judge.specs.declared.lock_set.LockSet.{LockSet}
+use Rattle.program.proofs.Differ.{differ}
 use Rattle.program.specs.Access.{Access, none, reads, writes, takes, gives}
 use Rattle.machine.specs.Step.{waits, valueRead, variablesAfter, locksAfter}
 use Rattle.program.specs.Layout.{Program}
 use Rattle.program.specs.declared.variable.Kind.{Kind}
 use Rattle.program.specs.declared.variable.Kind.the-variants.{Guarded, Own, Fixed, Open}
-use Rattle.soundness.specs.Access.{Permitted, read-permitted, write-permitted, give-permitted, TakesBelow, Owns, NoLock, NoVariable, Independent, Swaps, right-first, left-second}
+use Rattle.soundness.specs.Internal.Access.{Permitted, read-permitted, write-permitted, give-permitted, TakesBelow, Owns, NoLock, NoVariable, Independent, Swaps, right-first, left-second}
 use Rattle.soundness.proofs.Owns.{take-free}
 
 -- ---- pairs that are independent
@@ -50,29 +51,29 @@ independent-none y = record {
 
 read-no-lock : (v : ℕ) → NoLock (reads v)
 unfolding waits locksAfter
-read-no-lock v = record { kept = λ t ks. refl; free = λ ks. refl }
+read-no-lock v = record { locks-stay = λ t ks. refl; never-waits = λ ks. refl }
 
 write-no-lock : (v a : ℕ) → NoLock (writes v a)
 unfolding waits locksAfter
-write-no-lock v a = record { kept = λ t ks. refl; free = λ ks. refl }
+write-no-lock v a = record { locks-stay = λ t ks. refl; never-waits = λ ks. refl }
 
 take-no-variable : (k : ℕ) → NoVariable (takes k)
 unfolding valueRead variablesAfter
-take-no-variable k = record { kept = λ r vs. refl; blind = λ vs. refl }
+take-no-variable k = record { variables-stay = λ r vs. refl; reads-nothing = λ vs. refl }
 
 give-no-variable : (k : ℕ) → NoVariable (gives k)
 unfolding valueRead variablesAfter
-give-no-variable k = record { kept = λ r vs. refl; blind = λ vs. refl }
+give-no-variable k = record { variables-stay = λ r vs. refl; reads-nothing = λ vs. refl }
 
 -- a variable and a lock
 variable-lock : {x y : Access} → NoLock x → NoVariable y → Independent x y
 variable-lock {x} {y} h k = record {
-  variables = λ r q vs. k .kept q (variablesAfter x r vs) ∙ ap (variablesAfter x r) (sym (k .kept q vs));
-  locks = λ t u ks. ap (locksAfter y u) (h .kept t ks) ∙ sym (h .kept t (locksAfter y u ks));
-  first-reads = λ q vs. ap (valueRead x) (k .kept q vs);
-  second-reads = λ r vs. k .blind (variablesAfter x r vs) ∙ sym (k .blind vs);
-  first-waits = λ u ks. h .free (locksAfter y u ks) ∙ sym (h .free ks);
-  second-waits = λ t ks. ap (waits y) (h .kept t ks);
+  variables = λ r q vs. k .variables-stay q (variablesAfter x r vs) ∙ ap (variablesAfter x r) (sym (k .variables-stay q vs));
+  locks = λ t u ks. ap (locksAfter y u) (h .locks-stay t ks) ∙ sym (h .locks-stay t (locksAfter y u ks));
+  first-reads = λ q vs. ap (valueRead x) (k .variables-stay q vs);
+  second-reads = λ r vs. k .reads-nothing (variablesAfter x r vs) ∙ sym (k .reads-nothing vs);
+  first-waits = λ u ks. h .never-waits (locksAfter y u ks) ∙ sym (h .never-waits ks);
+  second-waits = λ t ks. ap (waits y) (h .locks-stay t ks);
 }
 
 -- two variables, by what is said of variables
@@ -82,11 +83,11 @@ variable-variable : {x y : Access} → NoLock x → NoLock y
     → ((r vs : List ℕ) → valueRead y (variablesAfter x r vs) ≡ valueRead y vs) → Independent x y
 variable-variable {x} {y} h k variables first second = record {
   variables = variables;
-  locks = λ t u ks. k .kept u (locksAfter x t ks) ∙ ap (locksAfter x t) (sym (k .kept u ks));
+  locks = λ t u ks. k .locks-stay u (locksAfter x t ks) ∙ ap (locksAfter x t) (sym (k .locks-stay u ks));
   first-reads = first;
   second-reads = second;
-  first-waits = λ u ks. ap (waits x) (k .kept u ks);
-  second-waits = λ t ks. ap (waits y) (h .kept t ks);
+  first-waits = λ u ks. ap (waits x) (k .locks-stay u ks);
+  second-waits = λ t ks. ap (waits y) (h .locks-stay t ks);
 }
 
 -- two locks, by what is said of locks
@@ -95,10 +96,10 @@ lock-lock : {x y : Access} → NoVariable x → NoVariable y
     → ((u : ℕ) (ks : List ℕ) → waits x (locksAfter y u ks) ≡ waits x ks)
     → ((t : ℕ) (ks : List ℕ) → waits y (locksAfter x t ks) ≡ waits y ks) → Independent x y
 lock-lock {x} {y} h k locks first second = record {
-  variables = λ r q vs. k .kept q (variablesAfter x r vs) ∙ ap (variablesAfter x r) (sym (k .kept q vs));
+  variables = λ r q vs. k .variables-stay q (variablesAfter x r vs) ∙ ap (variablesAfter x r) (sym (k .variables-stay q vs));
   locks = locks;
-  first-reads = λ q vs. ap (valueRead x) (k .kept q vs);
-  second-reads = λ r vs. ap (valueRead y) (h .kept r vs);
+  first-reads = λ q vs. ap (valueRead x) (k .variables-stay q vs);
+  second-reads = λ r vs. ap (valueRead y) (h .variables-stay r vs);
   first-waits = first;
   second-waits = second;
 }
@@ -146,9 +147,9 @@ conflict : (k : Kind) {t u : ℕ} (s s′ : LockSet) (w w′ : Bool) → t ≢ u
 unfolding permits
 conflict (Guarded g) s s′ a b n excl h h′ e = absurd (excl g h h′)
 conflict (Own g) {t} {u} s s′ a b n excl h h′ e = absurd (n (sym (eqb-true g t h) ∙ eqb-true g u h′))
-conflict Fixed s s′ true b n excl h h′ e = absurd (let z : _≡_ {A = ℕ} 0 1 = cc in omega arith)
-conflict Fixed s s′ false true n excl h h′ e = absurd (let z : _≡_ {A = ℕ} 0 1 = cc in omega arith)
-conflict Fixed s s′ false false n excl h h′ e = absurd (let z : _≡_ {A = ℕ} 0 1 = cc in omega arith)
+conflict Fixed s s′ true b n excl h h′ e = differ cc
+conflict Fixed s s′ false true n excl h h′ e = differ cc
+conflict Fixed s s′ false false n excl h h′ e = differ cc
 conflict Open s s′ a b n excl h h′ e = refl
 
 -- and accesses of an open variable do not swap
@@ -195,7 +196,7 @@ module _ (p : Program) {t u : ℕ} (different : t ≢ u) {s s′ : LockSet} {ks 
   -- ---- all pairs
 
   pub independent : (x y : Access) → Permitted p t s x → Permitted p u s′ y → TakesBelow (length ks) x
-      → waits x ks ≡ false → waits y (locksAfter x t ks) ≡ false → Swaps (accessMover p t x) (accessMover p u y) → Independent x y
+      → waits x ks ≡ false → waits y (locksAfter x t ks) ≡ false → Swaps (accessMover p t s x) (accessMover p u s′ y) → Independent x y
   unfolding accessMover TakesBelow
   independent none y h h′ b f f′ m = independent-none y
   independent (reads v) none h h′ b f f′ m = independent-sym (independent-none (reads v))

@@ -2,9 +2,10 @@
 --
 -- From the rules to the places of the code:
 --     Prefix        prefixes of blocks, and what a move's ends say of its atomicity
---     Annotation    typed code written out flat, and read place by place
---     Flow          wherever a thread goes, the row there follows
---     Coverage      a place is covered by an ATOMIC exactly if its row is inside a block
+--     Places        lists read place by place, stretches of places
+--     Labelled      every move of the machine is along an edge
+--     Flow          every edge of typed code follows
+--     Coverage      the labels of typed code say where the blocks are
 --     Annotated     so typed code is annotated
 -- The machine:
 --     Access        an instruction by its shared access
@@ -21,7 +22,8 @@
 --     Demand        demand 3
 --     Example       it is not empty
 pub mod Prefix
-pub mod Annotation
+pub mod Places
+pub mod Labelled
 pub mod Flow
 pub mod Coverage
 pub mod Annotated

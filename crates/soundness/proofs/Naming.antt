@@ -1,18 +1,22 @@
--- Naming the moves changes nothing of a run: the state is the machine's (`run-named`), and there are as many moves as are counted
--- (`run-moved`, `moves-counted`). Assumes nothing.
+-- Naming the moves changes nothing of a run. Assumes nothing.
+--     step-named                  one entry leads to the machine's state
+--     run-named, run-end          so does a list, and a list from the start
+--     run-moved, moves-counted    there are as many moves as are counted; from the start
 use Prim.Native.Nat.{ℕ, _+_}
 use native.Mathlib.Nat.{add-zero, zero-add}
 use native.Mathlib.Omega.{arith}
 use mathlib.Core.Path.{_≡_, refl, sym, ap, _∙_}
 use mathlib.Core.List.{List, [], _∷_}
 use lib.ListN.{length}
-use Rattle.machine.specs.Run.{Counts, Run, counted, runFrom, run}
+use Rattle.machine.specs.Run.{Run, counted, runFrom, run}
+use Rattle.machine.specs.declared.run.Counts.{Counts}
 use Rattle.machine.specs.State.{State}
 use Rattle.machine.specs.Step.{outcome, after, step}
 use Rattle.machine.specs.declared.thread.Outcome.{Outcome}
 use Rattle.machine.specs.declared.thread.Outcome.the-variants.{Moved, Waiting, Idle}
 use Rattle.program.specs.Layout.{Program}
-use Rattle.soundness.specs.Naming.{Move, Named, namedStart, moveOf, moved, movedNamed, afterNamed, stepNamed, runNamed, alsoMoved, movesFrom, moves}
+use Rattle.soundness.specs.Naming.{Move, Named, namedStart, moveOf, moved, movedNamed, afterNamed, stepNamed, alsoMoved, movesFrom, moves}
+use Rattle.soundness.specs.Internal.Traced.{runNamed}
 
 abbrev counting : Counts → State → Run
 counting c s = record { counts = c; state = s }

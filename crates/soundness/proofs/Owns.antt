@@ -1,5 +1,7 @@
--- A move keeps the locks held: its own thread holds what its lock set says afterwards (`owns-moved`), every other thread what it held
--- (`owns-other`). Assumes nothing.
+-- A move keeps the locks held. Assumes nothing.
+--     take-free    a lock that a TAKE may take is free
+--     owns-moved   the thread that moves holds what its lock set says afterwards
+--     owns-other   every other thread holds what it held
 use Prim.Native.Nat.{ℕ, _+_, _≤_, _<_}
 use native.Mathlib.Decide.{ℕ-discrete, decLt}
 use native.Mathlib.Omega.{arith}
@@ -13,11 +15,12 @@ use lib.Seq.{getD-set-same, getD-set-other}
 use lib.Dec.{eqb}
 use Rattle.judge.specs.LockSet.{holds, withLock, withoutLock}
 use Rattle.judge.specs.declared.lock_set.LockSet.{LockSet}
+use Rattle.program.proofs.Differ.{differ}
 use Rattle.program.specs.Access.{Access, none, reads, writes, takes, gives}
 use Rattle.machine.specs.Step.{waits, locksAfter}
 use Rattle.program.specs.Layout.{Program}
-use Rattle.judge.specs.Turns.{setAfter}
-use Rattle.soundness.specs.Access.{Permitted, give-permitted, TakesBelow, Owns}
+use Rattle.judge.specs.Internal.Verdicts.{setAfter}
+use Rattle.soundness.specs.Internal.Access.{Permitted, give-permitted, TakesBelow, Owns}
 
 -- a lock that a TAKE may take is free
 pub take-free : (k : ℕ) (ks : List ℕ) → waits (takes k) ks ≡ false → getD ks k 0 ≡ 0
@@ -33,7 +36,7 @@ unset l k = dite (decLt k (length l))
     List·getD-eq-default (set l k false) false h)
 
 set-unset : {b : Bool} → b ≡ true → b ≡ false → ⊥
-set-unset e f = let z : _≡_ {A = ℕ} 0 1 = cc in omega arith
+set-unset e f = differ cc
 
 module _ {p : Program} {t : ℕ} {s : LockSet} {ks : List ℕ} (mine : Owns t s ks) where
   -- the thread that moves holds what its lock set says afterwards

@@ -1,43 +1,26 @@
--- Laws of prefixes: how they grow along a block, and what a move's ends say of its atomicity. Assumes nothing.
-use Prim.Native.Nat.{ℕ}
-use native.Mathlib.Omega.{arith}
+-- Laws of prefixes. Assumes nothing.
+--     behind-both, behind-behind                 the prefix behind nothing, and behind two codes
+--     below-refl, below-behind                   a prefix is below itself, and only grows
+--     below-first, below-second, below-turn      either part of a choice is below the choice, one turn more below the loop
+--     proper-below, proper-entered               what is not T
+--     goes-behind, goes-in, goes-out             a move straight on, into a block, out of it
+--     before-right, after-not-right              before the commit at or below R, after it not
+--     goes-right, goes-left, goes-committed      what the ends of a move say of its mover
+--     outside-outer, outer-outside,              standing outside, as a status and as a prefix
+--     not-outside-inner
+--     inner-behind, inner-entered                the block behind code, and behind an ATOMIC
 use mathlib.Core.Path.{_≡_, refl, sym, ap, subst}
 use mathlib.Core.Logic.{_≢_}
 use mathlib.Core.Bool.{Bool, true, false}
 use lib.Dec.{T}
-use Rattle.atomicity.proofs.Laws.{then-assoc, then-both, both-then, then-mono, order-refl, order-trans, join-left, join-right, loop-again, right-before, right-after, left-after}
+use Rattle.atomicity.proofs.Laws.{then-assoc, then-both, both-then, then-mono-right, then-above, not-top-below, order-refl, order-trans, join-left, join-right, loop-again, right-before, right-after, left-after}
 use Rattle.atomicity.specs.Atomicity.{composition, join, closure, atMost}
 use Rattle.atomicity.specs.declared.Atomicity.{Atomicity}
-use Rattle.atomicity.specs.declared.Atomicity.the-variants.{Both, Left, Right, Atomic, Top}
+use Rattle.atomicity.specs.declared.Atomicity.the-variants.{Both, Left, Right, Top}
+use Rattle.program.proofs.Differ.{differ}
 use Rattle.program.specs.Choice.{choose}
 use Rattle.reduction.specs.Moves.{outside, beforeCommit, afterCommit}
-use Rattle.soundness.specs.Prefix.{Prefix, outer, inner, statusOf, isInner, behind, entered, Below, below-outer, below-inner, Proper, proper-outer, proper-inner, Goes, stays, enters, leaves, goes-on}
-
--- ---- two more laws of the atomicities
-
--- B is at or below everything
-both-least : (a : Atomicity) → T (atMost Both a)
-unfolding atMost
-both-least Both = tt
-both-least Left = tt
-both-least Right = tt
-both-least Atomic = tt
-both-least Top = tt
-
--- what is at or above T is T
-above-top : (a : Atomicity) → T (atMost Top a) → a ≡ Top
-unfolding atMost
-above-top Both h = absurd h
-above-top Left h = absurd h
-above-top Right h = absurd h
-above-top Atomic h = absurd h
-above-top Top h = refl
-
-not-top-below : (a b : Atomicity) → T (atMost a b) → b ≢ Top → a ≢ Top
-not-top-below a b h n e = n (above-top b (subst (λ (x : Atomicity). T (atMost x b)) e h))
-
-then-above : (a b : Atomicity) → T (atMost a (composition a b))
-then-above a b = subst (λ (x : Atomicity). T (atMost x (composition a b))) (then-both a) (then-mono Both b a (both-least b) .1)
+use Rattle.soundness.specs.Internal.Prefix.{Prefix, outer, inner, statusOf, isInner, behind, entered, Below, below-outer, below-inner, Proper, proper-outer, proper-inner, Goes, stays, enters, leaves, goes-on}
 
 -- ---- prefixes
 
@@ -61,11 +44,11 @@ below-behind (inner x) a = below-inner (then-above x a)
 -- either part of a choice is at or below the choice
 pub below-first : (m : Prefix) (a b : Atomicity) → Below (behind m a) (behind m (join a b))
 below-first outer a b = below-outer
-below-first (inner x) a b = below-inner (then-mono a (join a b) x (join-left a b) .1)
+below-first (inner x) a b = below-inner (then-mono-right a (join a b) x (join-left a b))
 
 pub below-second : (m : Prefix) (a b : Atomicity) → Below (behind m b) (behind m (join a b))
 below-second outer a b = below-outer
-below-second (inner x) a b = below-inner (then-mono b (join a b) x (join-right a b) .1)
+below-second (inner x) a b = below-inner (then-mono-right b (join a b) x (join-right a b))
 
 -- one turn more stays within the loop
 pub below-turn : (m : Prefix) (a : Atomicity) → Below (behind (behind m (closure a)) a) (behind m (closure a))
@@ -103,10 +86,10 @@ goes-out (inner x) a l h =
 -- ---- what the ends of a move say
 
 outer-not-before : outside ≢ beforeCommit
-outer-not-before e = let z : _≡_ {A = ℕ} 0 1 = cc in omega arith
+outer-not-before e = differ cc
 
 outer-not-after : outside ≢ afterCommit
-outer-not-after e = let z : _≡_ {A = ℕ} 0 1 = cc in omega arith
+outer-not-after e = differ cc
 
 -- before the commit: at or below R
 pub before-right : (x : Atomicity) → statusOf (inner x) ≡ beforeCommit → T (atMost x Right)
@@ -115,7 +98,7 @@ before-right x = by-test (atMost x Right)
   where
     by-test : (b : Bool) → choose b beforeCommit afterCommit ≡ beforeCommit → T b
     by-test true e = tt
-    by-test false e = let z : _≡_ {A = ℕ} 0 1 = cc in omega arith
+    by-test false e = differ cc
 
 -- after the commit: not
 pub after-not-right : (x : Atomicity) → statusOf (inner x) ≡ afterCommit → T (atMost x Right) → ⊥
@@ -123,7 +106,7 @@ unfolding statusOf
 after-not-right x = by-test (atMost x Right)
   where
     by-test : (b : Bool) → choose b beforeCommit afterCommit ≡ afterCommit → T b → ⊥
-    by-test true e t = let z : _≡_ {A = ℕ} 0 1 = cc in omega arith
+    by-test true e t = differ cc
     by-test false e t = t
 
 -- a move that ends before the commit is a right mover
@@ -158,15 +141,26 @@ outside-outer outer e = refl
 outside-outer (inner x) e = absurd (by-test (atMost x Right) e)
   where
     by-test : (b : Bool) → choose b beforeCommit afterCommit ≡ outside → ⊥
-    by-test true e = let z : _≡_ {A = ℕ} 0 1 = cc in omega arith
-    by-test false e = let z : _≡_ {A = ℕ} 0 1 = cc in omega arith
+    by-test true e = differ cc
+    by-test false e = differ cc
 
 pub outer-outside : (m : Prefix) → isInner m ≡ false → statusOf m ≡ outside
 unfolding statusOf isInner
 outer-outside outer e = refl
-outer-outside (inner x) e = absurd (let z : _≡_ {A = ℕ} 0 1 = cc in omega arith)
+outer-outside (inner x) e = differ cc
 
 pub not-outside-inner : (m : Prefix) → statusOf m ≢ outside → isInner m ≡ true
 unfolding statusOf isInner
 not-outside-inner outer n = absurd (n refl)
 not-outside-inner (inner x) n = refl
+
+-- code stays in its block, and an ATOMIC leads into one
+pub inner-behind : (m : Prefix) (a : Atomicity) → isInner (behind m a) ≡ isInner m
+unfolding isInner
+inner-behind outer a = refl
+inner-behind (inner x) a = refl
+
+pub inner-entered : (m : Prefix) → isInner (entered m) ≡ true
+unfolding isInner
+inner-entered outer = refl
+inner-entered (inner x) = refl

@@ -1,4 +1,6 @@
--- Demand 3 for every program whose threads' code is annotated (`serialized`). Assumes nothing.
+-- Demand 3 for every program whose threads' code is annotated. Assumes nothing.
+--     invariant-start   the invariant holds at the start
+--     serialized        start and end are quiescent and keep the invariant, so reduction gives the list
 use Prim.Native.Nat.{ℕ, _≤_, _<_}
 use native.Mathlib.Decide.{decLt}
 use native.Mathlib.Omega.{arith}
@@ -6,25 +8,27 @@ use mathlib.Core.Path.{_≡_, refl, sym, ap, _∙_, subst}
 use mathlib.Core.Logic.{dite}
 use mathlib.Core.Bool.{false}
 use mathlib.Core.List.{List, []}
-use lib.ListN.{length, replicate, length-map, length-replicate, getD-replicate, List·getD-map, List·getD-eq-default}
-use Rattle.judge.specs.LockSet.{empty, holds, lockLimit}
+use lib.ListN.{length, replicate, length-replicate, getD-replicate, List·getD-eq-default}
+use Rattle.judge.specs.LockSet.{empty, holds}
 use Rattle.judge.specs.declared.lock_set.LockSet.{LockSet}
-use Rattle.machine.specs.Block.{coveredFrom, inside, NobodyInside, Uninterrupted}
+use Rattle.machine.specs.Block.{NobodyInside, Uninterrupted}
 use Rattle.machine.specs.Run.{run}
-use Rattle.machine.specs.State.{State, codeOf, threadOf, start, fresh}
+use Rattle.machine.specs.State.{State, threadOf, start, fresh}
 use Rattle.machine.specs.declared.thread.Thread.{Thread}
-use Rattle.program.specs.Layout.{Program, CodeSection}
-use Rattle.program.specs.declared.instruction.Instruction.{Instruction}
+use Rattle.program.proofs.Differ.{differ}
+use Rattle.program.proofs.Lists.{getD-replicate-same}
+use Rattle.program.specs.Layout.{Program}
+use Rattle.program.specs.Limits.{lockLimit}
 use Rattle.reduction.specs.Moves.{outside}
 use Rattle.reduction.specs.Reduction.{Quiescent}
 use Rattle.reduction.proofs.Reduction.{reduction, same-length, same-precedence}
-use Rattle.soundness.specs.Access.{Owns}
-use Rattle.soundness.specs.Annotation.{Row}
-use Rattle.soundness.specs.Instance.{Annotated, rowOf, Invariant, machineMoves}
-use Rattle.soundness.specs.Naming.{Move, Named, namedStart, moves}
-use Rattle.soundness.specs.Order.{movesOf, Precedes, SerializedInOrder}
-use Rattle.soundness.specs.Prefix.{Prefix, outer, statusOf, Below, below-outer}
-use Rattle.soundness.specs.Traced.{threadsOf}
+use Rattle.soundness.specs.Internal.Access.{Owns}
+use Rattle.soundness.specs.Internal.Flow.{Leads}
+use Rattle.soundness.specs.Internal.Instance.{ThreadsAnnotated, labelOf, Invariant, machineMoves}
+use Rattle.soundness.specs.Demand.{ThreadsOf, Serialized}
+use Rattle.soundness.specs.Naming.{Move, Named, namedStart, moves, movesOf, Precedes}
+use Rattle.soundness.specs.Internal.Prefix.{Prefix, outer, statusOf, Below, below-outer, proper-outer}
+use Rattle.soundness.specs.Internal.Traced.{threadsOf}
 use Rattle.soundness.proofs.Instance.{inside-row, machine-movers}
 use Rattle.soundness.proofs.Naming.{run-end, moves-counted}
 use Rattle.soundness.proofs.Prefix.{outer-outside}
@@ -34,7 +38,7 @@ use Rattle.soundness.proofs.Traced.{traced, listed}
 
 start-fresh : (p : Program) (t : ℕ) → threadOf (start p) t ≡ fresh
 unfolding threadOf start
-start-fresh p t = List·getD-map (λ (c : CodeSection). fresh) (p .threads) t (record { start = 0; code = [] })
+start-fresh p t = getD-replicate-same (p .threads) t fresh
 
 start-place : (p : Program) (t : ℕ) → threadOf (start p) t .place ≡ 0
 unfolding fresh
@@ -50,59 +54,53 @@ empty-holds k = dite (decLt k lockLimit)
     List·getD-eq-default (replicate lockLimit false) false h)
 
 owns-empty : (t : ℕ) (ks : List ℕ) → Owns t empty ks
-owns-empty t ks = record { owner = λ k e. let f = empty-holds k in absurd (let z : _≡_ {A = ℕ} 0 1 = cc in omega arith) }
+owns-empty t ks = record { owner = λ k e. let f = empty-holds k in differ cc }
 
 outer-begun : {m : Prefix} → Below outer m → statusOf m ≡ outside
 unfolding statusOf
 outer-begun below-outer = refl
 
--- a thread that is not of the program has no code
-no-code : (p : Program) (t : ℕ) → length (p .threads) ≤ t → codeOf p t ≡ []
-unfolding codeOf
-no-code p t h = ap (λ (c : CodeSection). c .code) (List·getD-eq-default (p .threads) (record { start = 0; code = [] }) h)
+-- a thread that the state does not have counts as standing at its start
+place-absent : (s : State) (t : ℕ) → length (s .threads) ≤ t → threadOf s t .place ≡ 0
+unfolding threadOf fresh
+place-absent s t h = ap (λ (th : Thread). th .place) (List·getD-eq-default (s .threads) fresh h)
 
-uncovered : (q : ℕ) → coveredFrom 0 [] q ≡ false
-unfolding coveredFrom
-uncovered q = refl
-
-module _ (p : Program) (A : (t : ℕ) → Annotated p t) where
-  start-row : (t : ℕ) → rowOf p A (namedStart p) t ≡ A t .rowAt 0
+module _ (p : Program) (A : ThreadsAnnotated p) where
+  start-label : (t : ℕ) → Leads empty outer (labelOf p A (namedStart p) t)
   unfolding namedStart
-  start-row t = ap (A t .rowAt) (start-place p t)
+  start-label t = subst (λ (q : ℕ). Leads empty outer (A t .labelFrom outer q)) (sym (start-place p t)) (A t .begun outer proper-outer)
 
   pub invariant-start : Invariant p A (namedStart p)
   unfolding namedStart start
   invariant-start = record {
     owns = λ t.
-        subst (λ (s : LockSet). Owns t s (replicate (p .locks) 0)) (A t .begun .same ∙ sym (ap (λ (r : Row). r .locks) (start-row t)))
+        subst (λ (s : LockSet). Owns t s (replicate (p .locks) 0)) (start-label t .same-locks)
         (owns-empty t (replicate (p .locks) 0));
     places = λ t. omega (arith, start-place p t);
     lock-count = length-replicate (p .locks) 0;
-    thread-count = length-map (p .threads) (λ (c : CodeSection). fresh);
-    finished-count = length-replicate (length (p .threads)) 0;
+    thread-count = length-replicate (p .threads) fresh;
+    finished-count = length-replicate (p .threads) 0;
   }
 
   quiescent-start : Quiescent (machineMoves p A) (namedStart p)
-  quiescent-start t = ap (λ (r : Row). statusOf (r .prefix)) (start-row t) ∙ outer-begun (A t .begun .below)
+  quiescent-start t = outer-begun (start-label t .below)
 
   -- ---- the end
 
-  outside-end : (s : State) → NobodyInside p s → (t : ℕ) → inside p s t ≡ false
-  unfolding NobodyInside inside
-  outside-end s nobody t = dite (decLt t (length (p .threads)))
-      (λ (h : t < length (p .threads)). nobody t h)
-      (λ (n : ¬ (t < length (p .threads))).
-      ap (λ (c : List Instruction). coveredFrom 0 c (threadOf s t .place)) (no-code p t (omega arith)) ∙ uncovered (threadOf s t .place))
-
   quiescent-end : {v : Named} → Invariant p A v → NobodyInside p (v .machine) → Quiescent (machineMoves p A) v
-  quiescent-end {v} inv nobody t = outer-outside (rowOf p A v t .prefix) (sym (inside-row p A inv t) ∙ outside-end (v .machine) nobody t)
+  unfolding NobodyInside
+  quiescent-end {v} inv nobody t = dite (decLt t (p .threads))
+      (λ (h : t < p .threads). outer-outside (labelOf p A v t .prefix) (sym (inside-row p A inv t) ∙ nobody t h))
+      (λ (n : ¬ (t < p .threads)).
+      let absent = place-absent (v .machine) t (omega (arith, inv .thread-count)) in
+      subst (λ (q : ℕ). statusOf (A t .labelFrom outer q .prefix) ≡ outside) (sym absent) (outer-begun (A t .begun outer proper-outer .below)))
 
   -- ---- the theorem
 
-  pub serialized : (list : List ℕ) → NobodyInside p (run p list .state) → SerializedInOrder p list
+  pub serialized : (list : List ℕ) → ThreadsOf p list → NobodyInside p (run p list .state) → Serialized p list
   unfolding moves namedStart Uninterrupted
-  serialized list nobody =
-      let T = traced p A list (namedStart p) invariant-start in
+  serialized list threads nobody =
+      let T = traced p A list threads (namedStart p) invariant-start in
       let end = quiescent-end (T .invariant) (subst (NobodyInside p) (run-end p list) nobody) in
       let R = reduction (machineMoves p A) (machine-movers p A) (T .trace) quiescent-start end in
       let L = listed p A (R .uninterrupted) invariant-start in

@@ -1,9 +1,9 @@
--- A list of thread numbers is a trace of the machine, and an uninterrupted trace is an uninterrupted list. Assumes nothing.
+-- A list of thread numbers is a trace of the machine (`traced`), and an uninterrupted trace is an uninterrupted list (`listed`).
+-- Assumes nothing.
 use Prim.Native.Nat.{ℕ, zero, suc, _<_}
 use native.Mathlib.Omega.{arith}
 use mathlib.Core.Path.{_≡_, refl, sym, ap, ap₂, _∙_, subst}
 use mathlib.Core.List.{List, [], _∷_}
-use lib.ListN.{length}
 use Rattle.machine.specs.Block.{OthersOutside, UninterruptedFrom}
 use Rattle.machine.specs.Run.{Entries}
 use Rattle.machine.specs.State.{State}
@@ -13,11 +13,11 @@ use Rattle.machine.specs.declared.thread.Outcome.the-variants.{Moved, Waiting, 
 use Rattle.program.specs.Layout.{Program}
 use Rattle.reduction.specs.Reduction.{trace-nil, trace-cons, Uninterrupted, alone-nil, alone-cons, Alone}
 use Rattle.soundness.specs.Demand.{ThreadsOf}
-use Rattle.soundness.specs.Instance.{Annotated, Invariant, machineMoves, rowOf}
-use Rattle.soundness.specs.Naming.{Move, Named, moveOf, movedNamed, afterNamed, stepNamed, runNamed, alsoMoved, movesFrom}
-use Rattle.soundness.specs.Traced.{Traced, Listed, threadsOf}
+use Rattle.soundness.specs.Internal.Instance.{ThreadsAnnotated, Invariant, machineMoves, labelOf}
+use Rattle.soundness.specs.Naming.{Move, Named, moveOf, movedNamed, afterNamed, stepNamed, alsoMoved, movesFrom}
+use Rattle.soundness.specs.Internal.Traced.{Traced, Listed, threadsOf, runNamed}
 use Rattle.soundness.proofs.Instance.{inside-row}
-use Rattle.soundness.proofs.Move.{in-program, invariant-moved}
+use Rattle.soundness.proofs.Move.{invariant-moved}
 use Rattle.soundness.proofs.Naming.{step-named}
 use Rattle.soundness.proofs.Prefix.{outside-outer}
 
@@ -27,45 +27,46 @@ threads-nil : (p : Program) → ThreadsOf p []
 unfolding Entries
 threads-nil p i h = absurd (omega arith)
 
-threads-cons : (p : Program) (t : ℕ) (ts : List ℕ) → t < length (p .threads) → ThreadsOf p ts → ThreadsOf p (t ∷ ts)
+threads-cons : (p : Program) (t : ℕ) (ts : List ℕ) → t < p .threads → ThreadsOf p ts → ThreadsOf p (t ∷ ts)
 unfolding Entries
 threads-cons p t ts b f zero h = b
 threads-cons p t ts b f (suc i) h = f i (omega arith)
 
-module _ (p : Program) (A : (t : ℕ) → Annotated p t) where
+module _ (p : Program) (A : ThreadsAnnotated p) where
   -- ---- from a list to a trace
 
   -- one entry, by its outcome
-  entry : (t : ℕ) (ts : List ℕ) {g : Named} → Invariant p A g → (o : Outcome) → outcome p t (g .machine) ≡ o
+  entry : (t : ℕ) (ts : List ℕ) {g : Named} → t < p .threads → Invariant p A g → (o : Outcome) → outcome p t (g .machine) ≡ o
       → ((h : Named) → Invariant p A h → Traced p A h (movesFrom p h ts) (runNamed p h ts))
       → (let h = afterNamed o g (movedNamed p t g) in Traced p A g (alsoMoved o (moveOf g t) (movesFrom p h ts)) (runNamed p h ts))
   unfolding moveOf
-  entry t ts {g} inv Moved e rest =
-      let r = rest (movedNamed p t g) (invariant-moved p A inv t e) in
-      record { trace = trace-cons (record { invariant = inv; moved = e; named = refl; next = refl }) (r .trace); invariant = r .invariant }
-  entry t ts {g} inv Waiting e rest = rest g inv
-  entry t ts {g} inv Idle e rest = rest g inv
+  entry t ts {g} b inv Moved e rest =
+      let r = rest (movedNamed p t g) (invariant-moved p A inv t b e) in
+      record { trace = trace-cons (record { invariant = inv; is-thread = b; moved = e; named = refl; ends = refl }) (r .trace); invariant = r .invariant }
+  entry t ts {g} b inv Waiting e rest = rest g inv
+  entry t ts {g} b inv Idle e rest = rest g inv
 
-  pub traced : (ts : List ℕ) (g : Named) → Invariant p A g → Traced p A g (movesFrom p g ts) (runNamed p g ts)
-  unfolding movesFrom runNamed
-  traced [] g inv = record { trace = trace-nil; invariant = inv }
-  traced (t ∷ ts) g inv = entry t ts inv (outcome p t (g .machine)) refl (λ h k. traced ts h k)
+  pub traced : (ts : List ℕ) → ThreadsOf p ts → (g : Named) → Invariant p A g → Traced p A g (movesFrom p g ts) (runNamed p g ts)
+  unfolding movesFrom runNamed Entries
+  traced [] all g inv = record { trace = trace-nil; invariant = inv }
+  traced (t ∷ ts) all g inv =
+      entry t ts (all 0 (omega arith)) inv (outcome p t (g .machine)) refl (λ h k. traced ts (λ i b. all (suc i) (omega arith)) h k)
 
   -- ---- from a trace to a list
 
   -- one move
   listed-cons : {l : List Move} {g v : Named} {m : Move} → Invariant p A g → Alone (machineMoves p A) g m
-      → outcome p (m .thread) (g .machine) ≡ Moved → m ≡ moveOf g (m .thread) → Listed p l (movedNamed p (m .thread) g) v → Listed p (m ∷ l) g v
+      → m .thread < p .threads → outcome p (m .thread) (g .machine) ≡ Moved → m ≡ moveOf g (m .thread) → Listed p l (movedNamed p (m .thread) g) v → Listed p (m ∷ l) g v
   unfolding UninterruptedFrom OthersOutside runNamed movesFrom
-  listed-cons {l} {g} {v} {m} inv alone e named r =
+  listed-cons {l} {g} {v} {m} inv alone b e named r =
       let t = m .thread in
       let ts = threadsOf l in
       let next : stepNamed p t g ≡ movedNamed p t g = ap (λ (o : Outcome). afterNamed o g (movedNamed p t g)) e in
       record {
-        threads = threads-cons p t ts (in-program p A inv t e) (r .threads);
+        threads = threads-cons p t ts b (r .threads);
         uninterrupted = (
           e,
-          (λ u b n. inside-row p A inv u ∙ outside-outer (rowOf p A g u .prefix) (alone u n)),
+          (λ u c n. inside-row p A inv u ∙ outside-outer (labelOf p A g u .prefix) (alone u n)),
           subst (λ (s : State). UninterruptedFrom p s ts) (sym (step-named p t g ∙ ap (λ (h : Named). h .machine) next)) (r .uninterrupted),
         );
         same-end = ap (λ (h : Named). runNamed p h ts) next ∙ r .same-end;
@@ -78,5 +79,5 @@ module _ (p : Program) (A : (t : ℕ) → Annotated p t) where
   unfolding UninterruptedFrom runNamed movesFrom
   listed alone-nil inv = record { threads = threads-nil p; uninterrupted = tt; same-end = refl; same-moves = refl }
   listed {v} (alone-cons {m} {l} alone X rest) inv =
-      let inv′ = subst (Invariant p A) (sym (X .next)) (invariant-moved p A inv (m .thread) (X .moved)) in
-      listed-cons inv alone (X .moved) (X .named) (subst (λ (k : Named). Listed p l k v) (X .next) (listed rest inv′))
+      let inv′ = subst (Invariant p A) (sym (X .ends)) (invariant-moved p A inv (m .thread) (X .is-thread) (X .moved)) in
+      listed-cons inv alone (X .is-thread) (X .moved) (X .named) (subst (λ (k : Named). Listed p l k v) (X .ends) (listed rest inv′))

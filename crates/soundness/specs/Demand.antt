@@ -1,26 +1,32 @@
 -- Demand 3 (document 01, "The step machine"): "one claim about a whole list, not one for each entry: it compares the whole end states
--- of the given and the uninterrupted list, and their moved counts".
+-- of the given and the uninterrupted list, and their moved counts". The uninterrupted list is also what document 02 asks of it: each
+-- thread makes its moves of the given list in their order (No. 2, No. 9), and the blocks keep their turn (No. 9).
 use Prim.Native.Nat.{ℕ}
 use mathlib.Core.Path.{_≡_}
 use mathlib.Core.List.{List}
-use lib.ListN.{length}
 use Rattle.judge.specs.Acceptance.{Accepted, accept}
 use Rattle.machine.specs.Block.{NobodyInside, Uninterrupted}
 use Rattle.machine.specs.Run.{Entries, run}
-use Rattle.program.specs.Choice.{fine}
+use Rattle.program.specs.Answer.{fine}
 use Rattle.program.specs.Layout.{Program}
+use Rattle.soundness.specs.Naming.{BlockName, moves, movesOf, Precedes}
 
 -- a list of thread numbers of the program
 abbrev pub ThreadsOf : Program → List ℕ → Type 0
-ThreadsOf p list = Entries (length (p .threads)) list
+ThreadsOf p list = Entries (p .threads) list
 
--- an uninterrupted list of its threads that ends in the same variables, locks and thread states with the same number of moves
+-- an uninterrupted list of its threads
 pub record Serialized (p : Program) (list : List ℕ) : Type 0 where
   pub serial : List ℕ
   pub threads : ThreadsOf p serial
   pub uninterrupted : Uninterrupted p serial
+  -- that ends in the same variables, locks and thread states with the same number of moves
   pub same-state : run p serial .state ≡ run p list .state
   pub same-moved : run p serial .counts .moved ≡ run p list .counts .moved
+  -- "in which each thread makes its moves of the given list in their order" (No. 9), from the same places with the same registers
+  pub same-moves : (t : ℕ) → movesOf t (moves p serial) ≡ movesOf t (moves p list)
+  -- "an outermost block whose last move comes before another's first in the given list does so in the new one" (No. 9)
+  pub same-order : (a b : BlockName) → Precedes a b (moves p list) → Precedes a b (moves p serial)
 
 -- for every accepted file and every list of its thread numbers run from the start: if after the whole list no thread stands inside a
 -- block, there is such a list

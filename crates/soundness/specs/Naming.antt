@@ -1,9 +1,13 @@
--- The moves that a list makes: who moves, from which place with which registers, and in which block. A block is named by its thread and
--- how many blocks that thread had finished before; a move outside every block is a block of one.
+-- The moves that a list makes (document 01, "The step machine"): who moves, from which place with which registers, and in which block;
+-- each thread's moves, and which block is over when another begins (document 02, No. 2 and No. 9). A block is named by its thread and
+-- how many blocks that thread had finished before. "The move of the ATOMIC itself is its block's first. Any other move outside every
+-- block counts as a block of one".
 use Prim.Native.Nat.{ℕ, suc}
+use native.Mathlib.Decide.{ℕ-discrete}
+use mathlib.Core.Path.{_≡_}
 use mathlib.Core.Bool.{Bool, true, false}
-use mathlib.Core.List.{List, [], _∷_}
-use lib.ListN.{length, getD, set, replicate}
+use mathlib.Core.List.{List, [], _∷_, filter}
+use lib.ListN.{getD, set, replicate}
 use Rattle.machine.specs.Block.{inside}
 use Rattle.machine.specs.State.{State, start, threadOf}
 use Rattle.machine.specs.Step.{instructionOf, moveBy, outcome}
@@ -11,6 +15,7 @@ use Rattle.machine.specs.declared.thread.Outcome.{Outcome}
 use Rattle.machine.specs.declared.thread.Outcome.the-variants.{Moved, Waiting, Idle}
 use Rattle.machine.specs.declared.thread.Thread.{Thread}
 use Rattle.program.specs.Layout.{Program}
+use Rattle.reduction.specs.Sequence.{AllPairs}
 
 pub record BlockName : Type 0 where
   pub thread : ℕ
@@ -30,11 +35,7 @@ pub record Named : Type 0 where
   pub finished : List ℕ
 
 unfoldable pub namedStart : Program → Named
-namedStart p = record { machine = start p; finished = replicate (length (p .threads)) 0 }
-
--- the block that thread t is in, or the next one
-unfoldable pub blockOf : Named → ℕ → BlockName
-blockOf g t = record { thread = t; number = getD (g .finished) t 0 }
+namedStart p = record { machine = start p; finished = replicate (p .threads) 0 }
 
 -- the move that thread t makes next
 unfoldable pub moveOf : Named → ℕ → Move
@@ -64,10 +65,6 @@ afterNamed Idle g g′ = g
 abbrev pub stepNamed : Program → ℕ → Named → Named
 stepNamed p t g = afterNamed (outcome p t (g .machine)) g (movedNamed p t g)
 
-unfoldable pub runNamed : Program → Named → List ℕ → Named
-runNamed p g [] = g
-runNamed p g (t ∷ ts) = runNamed p (stepNamed p t g) ts
-
 -- the moves of a list, in order
 abbrev pub alsoMoved : Outcome → Move → List Move → List Move
 alsoMoved Moved m ms = m ∷ ms
@@ -80,3 +77,11 @@ movesFrom p g (t ∷ ts) = alsoMoved (outcome p t (g .machine)) (moveOf g t) (mo
 
 unfoldable pub moves : Program → List ℕ → List Move
 moves p ts = movesFrom p (namedStart p) ts
+
+-- the moves of thread t, in order
+abbrev pub movesOf : ℕ → List Move → List Move
+movesOf t = filter (λ (m : Move). ℕ-discrete (m .thread) t)
+
+-- no move of b comes before one of a: the last move of block a comes before the first of block b
+abbrev pub Precedes : BlockName → BlockName → List Move → Type 0
+Precedes a b = AllPairs (λ (x y : Move). ¬ ((blockName x ≡ b) × (blockName y ≡ a)))

@@ -5,12 +5,15 @@ use Rattle.atomicity.proofs.Table.{column-below}
 use Rattle.atomicity.proofs.entry.Statement.{statement}
 use Rattle.atomicity.proofs.entry.Tie as tie
 
+-- `let i = index(a)`
 index-requires : tie.Need-index-requires
 index-requires c κs = search needs
 
+-- `let j = index(b)`
 index-requires-2 : tie.Need-index-requires-2
 index-requires-2 c κs = search needs
 
+-- `table[i][j]`
 mul-result : tie.Need-mul-result
 mul-result c = rw (c .before .index .ensures) (omega (arith, column-below (c .before .before .args .a)))
 

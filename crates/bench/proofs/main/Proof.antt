@@ -4,16 +4,18 @@ use native.Mathlib.Nat.{le-of-eq}
 use native.Mathlib.Omega.{arith}
 use mathlib.Core.Path.{sym}
 use lib.Seq.{length-take-le}
-use Rattle.bench.proofs.Lines.{laid-fits}
+use Rattle.bench.proofs.Lines.{laid-within}
 use Rattle.bench.proofs.main.Statement.{statement}
 use Rattle.bench.proofs.main.Tie as tie
 
+-- `let n = io::read_full(STDIN_FILENO, &mut input)`
 slice-aggregate-read-full : tie.Need-slice-aggregate-read-full
 slice-aggregate-read-full c = search needs
 
 read-full-requires : tie.Need-read-full-requires
 read-full-requires c κs = search needs
 
+-- `let m = output(&input[..n], &mut text)`
 array-share-prefix-input : tie.Need-array-share-prefix-input
 array-share-prefix-input c = search needs
 
@@ -26,13 +28,14 @@ slice-aggregate-output-2 c = search needs
 output-requires : tie.Need-output-requires
 output-requires c κs = (omega (arith, c .before .before .before .read-full .ensures), le-of-eq (slice-aggregate-output-2 c))
 
+-- `io::write_all(STDOUT_FILENO, &text[..m])`
 array-share-prefix-text : tie.Need-array-share-prefix-text
-array-share-prefix-text c = laid-fits _ _ (c .before .output .ensures .0) (c .before .output .ensures .1)
+array-share-prefix-text c = laid-within _ _ (c .before .output .ensures .0) (c .before .output .ensures .1)
 
 slice-aggregate-write-all : tie.Need-slice-aggregate-write-all
 slice-aggregate-write-all c =
     let o = c .before .before .output in
-    sym (length-take-le (o .result) (o .last .1 .0) (laid-fits _ _ (o .ensures .0) (o .ensures .1)))
+    sym (length-take-le (o .result) (o .last .1 .0) (laid-within _ _ (o .ensures .0) (o .ensures .1)))
 
 write-all-requires : tie.Need-write-all-requires
 write-all-requires c κs = search needs

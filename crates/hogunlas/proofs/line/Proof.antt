@@ -2,30 +2,35 @@
 -- nothing.
 use borrow.Author.Needs.{needs}
 use native.Mathlib.Omega.{arith}
-use Rattle.hogunlas.proofs.Answers.{as-accepted, as-refused, report-fits}
+use Rattle.hogunlas.proofs.JudgeCall.{as-accepted, as-refused, report-within}
 use Rattle.hogunlas.proofs.Opening.{opened-by, counts-small}
 use Rattle.hogunlas.proofs.Printing.{line-refused, line-number, line-short, line-done}
 use Rattle.hogunlas.proofs.line.Statement.{statement}
 use Rattle.hogunlas.proofs.line.Tie as tie
 
+-- `let judging = judge_file(file, &mut report)`
 slice-aggregate-judge-file : tie.Need-slice-aggregate-judge-file
 slice-aggregate-judge-file c = search needs
 
 judge-file-requires : tie.Need-judge-file-requires
 judge-file-requires c κs = search needs
 
+-- `Judging::Refused(refusal) => Printed::Refused(refusal)`
 enum-known-judging : tie.Need-enum-known-judging
 enum-known-judging c = search needs
 
+-- `Judging::Done(l, _) =>`
 enum-known-judging-2 : tie.Need-enum-known-judging-2
 enum-known-judging-2 c = search needs
 
+-- `let count = line_count(l)`
 line-count-requires : tie.Need-line-count-requires
 line-count-requires c κs =
     let args = c .before .before .before .before .before .before .before .before .args in
     let found = as-accepted _ _ _ _ (c .before .judging2 .given .1) (c .before .before .before .before .judge-file .ensures) in
     counts-small (args .file .now) (c .before .judging2 .given .0 .0) (found .reads)
 
+-- `Judging::Refused(refusal) => Printed::Refused(refusal)`
 returns : tie.Need-returns
 returns c =
     let args = c .before .before .before .before .before .before .before .before .before .before .args in
@@ -34,6 +39,7 @@ returns c =
     rw counted
     (line-number (args .file .now) (args .i) (args .out .now) (c .before .before .before .judging2 .given .0 .0) (found .accepted .report) (opened-by found) (rw counted at (c .if1 .taken)))
 
+-- `return Printed::Refused(Refusal::LineNumber(count))`
 returns-2 : tie.Need-returns-2
 returns-2 c =
     let args = c .before .before .before .before .before .before .before .before .before .before .before .args in
@@ -42,6 +48,7 @@ returns-2 c =
     line-short (args .file .now) (args .i) (args .out .now) (c .before .before .before .before .judging2 .given .0 .0) (found .accepted .report) (opened-by found)
     (rw counted at (c .before .if1 .left)) (c .if2 .taken)
 
+-- `Printed::Line(write_line(file, l, &report, i, out))`
 slice-aggregate-write-line : tie.Need-slice-aggregate-write-line
 slice-aggregate-write-line c = search needs
 
@@ -49,11 +56,12 @@ write-line-requires : tie.Need-write-line-requires
 write-line-requires c κs =
     let found = as-accepted _ _ _ _ (c .before .before .before .before .before .before .judging2 .given .1) (c .before .before .before .before .before .before .before .before .before .judge-file .ensures) in (
       found .reads,
-      omega (arith, found .counted, report-fits found),
+      omega (arith, found .counted, report-within found),
       rw (c .before .before .before .before .line-count .ensures) at (c .before .before .before .if1 .left),
       c .before .before .if2 .left,
     )
 
+-- `return Printed::Refused(Refusal::ShortBuffer(LINE_SIZE))`
 returns-3 : tie.Need-returns-3
 returns-3 c =
     let args = c .before .before .before .before .before .before .before .before .args in
@@ -63,6 +71,7 @@ returns-3 c =
 same-length : tie.Need-same-length
 same-length c = search needs
 
+-- `Printed::Line(write_line(file, l, &report, i, out))`
 returns-4 : tie.Need-returns-4
 returns-4 c =
     let args = c .before .before .before .before .before .before .before .before .before .before .before .before .before .before .before .before .args in

@@ -1,21 +1,24 @@
 -- `run` meets its contract: the file's refusals, or what `run_accepted` answers; demand 3 is a theorem of every file. Assumes nothing.
 use borrow.Author.Needs.{needs}
 use Rattle.soundness.proofs.Demand.{demand3}
-use Rattle.hogunlas.proofs.Answers.{as-accepted, as-refused}
+use Rattle.hogunlas.proofs.JudgeCall.{as-accepted, as-refused}
 use Rattle.hogunlas.proofs.Opening.{opened-by}
 use Rattle.hogunlas.proofs.Running.{run-refused}
 use Rattle.hogunlas.proofs.run.Statement.{statement}
 use Rattle.hogunlas.proofs.run.Tie as tie
 
+-- `let judging = judge_file(file, &mut report)`
 slice-aggregate-judge-file : tie.Need-slice-aggregate-judge-file
 slice-aggregate-judge-file c = search needs
 
 judge-file-requires : tie.Need-judge-file-requires
 judge-file-requires c κs = search needs
 
+-- `Judging::Refused(refusal) => Ran::Refused(refusal)`
 enum-known-judging : tie.Need-enum-known-judging
 enum-known-judging c = search needs
 
+-- `Judging::Done(l, _) => run_accepted(file, l, list, out)`
 enum-known-judging-2 : tie.Need-enum-known-judging-2
 enum-known-judging-2 c = search needs
 
@@ -24,6 +27,7 @@ run-accepted-requires c κs =
     let found = as-accepted _ _ _ _ (c .before .before .judging2 .given .1) (c .before .before .before .before .before .judge-file .ensures) in
     record { report = found .accepted .report; opened = opened-by found }
 
+-- `Judging::Refused(refusal) => Ran::Refused(refusal)`
 returns : tie.Need-returns
 returns c =
     let args = c .before .before .before .before .before .before .before .before .before .args in
@@ -34,6 +38,7 @@ returns c =
 same-length : tie.Need-same-length
 same-length c = search needs
 
+-- `Judging::Done(l, _) => run_accepted(file, l, list, out)`
 returns-2 : tie.Need-returns-2
 returns-2 c =
     let ran = c .before .before .run-accepted in

@@ -7,17 +7,21 @@ use Rattle.hogunlas.proofs.Running.{every-entry, run-long, run-thread, 
 use Rattle.hogunlas.proofs.run_accepted.Statement.{statement}
 use Rattle.hogunlas.proofs.run_accepted.Tie as tie
 
+-- `return Ran::Refused(Refusal::LongList(LIST_LIMIT))`
 returns : tie.Need-returns
 returns c =
     let start = c .before .before .before .before in
     run-long (start .args .file .now) (start .args .list .now) (start .args .out .now) (start .args .l) (start .pre .report) (start .pre .opened) (c .if1 .taken)
 
+-- `let found = first_bad_thread(list, l.threads)`
 first-bad-thread-requires : tie.Need-first-bad-thread-requires
 first-bad-thread-requires c κs = search needs
 
+-- `Found::At(i) => Ran::Refused(Refusal::ThreadNumber(i))`
 enum-known-found : tie.Need-enum-known-found
 enum-known-found c = search needs
 
+-- `let size = WORD_SIZE * l.variables + l.locks + THREAD_SIZE * l.threads`
 enum-told : tie.Need-enum-told
 enum-told c = search needs
 
@@ -33,12 +37,14 @@ mul-size-2 c = omega (arith, opened-sound (c .before .before .before .before .be
 add-size-2 : tie.Need-add-size-2
 add-size-2 c = omega (arith, opened-sound (c .before .before .before .before .before .before .before .before .before .before .pre))
 
+-- `Found::At(i) => Ran::Refused(Refusal::ThreadNumber(i))`
 returns-2 : tie.Need-returns-2
 returns-2 c =
     let start = c .before .before .before .before .before .before .before .before .before .before .before in
     run-short (start .args .file .now) (start .args .list .now) (start .args .out .now) (start .args .l) (start .pre .report) (start .pre .opened) (c .before .before .before .before .before .before .before .if1 .left)
     (sym (c .before .before .before .before .before .before .first-bad-thread .ensures) ∙ c .before .before .before .before .enum-told .given .1) (c .if2 .taken)
 
+-- `let counts = run_list(file, l, list, out)`
 run-list-requires : tie.Need-run-list-requires
 run-list-requires c κs =
     let start = c .before .before .before .before .before .before .before .before .before .before .before .before in (
@@ -47,6 +53,7 @@ run-list-requires c κs =
       c .before .if2 .left,
     )
 
+-- `return Ran::Refused(Refusal::ShortBuffer(size))`
 returns-3 : tie.Need-returns-3
 returns-3 c =
     let start = c .before .before .before .before .before .before .before .before in
@@ -56,6 +63,7 @@ returns-3 c =
 same-length : tie.Need-same-length
 same-length c = search needs
 
+-- `Ran::Counted(counts.moved, counts.waiting, counts.idle)`
 returns-4 : tie.Need-returns-4
 returns-4 c =
     let start = c .before .before .before .before .before .before .before .before .before .before .before .before .before .before .before in

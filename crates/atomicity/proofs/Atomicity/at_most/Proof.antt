@@ -4,6 +4,7 @@ use Rattle.atomicity.proofs.Laws.{order-join}
 use Rattle.atomicity.proofs.Atomicity.at_most.Statement.{statement}
 use Rattle.atomicity.proofs.Atomicity.at_most.Tie as tie
 
+-- `index(self.join(b)) == index(b)`
 join-requires : tie.Need-join-requires
 join-requires c κs = search needs
 

@@ -7,6 +7,7 @@ use Rattle.atomicity.proofs.Table.{table-at}
 use Rattle.atomicity.proofs.Atomicity.join.Statement.{statement}
 use Rattle.atomicity.proofs.Atomicity.join.Tie as tie
 
+-- `entry(JOIN, self, b)`
 entry-requires : tie.Need-entry-requires
 entry-requires c κs = search needs
 

@@ -1,23 +1,26 @@
 -- `output` meets its contract: the file's refusal, or all its lines. Assumes nothing.
 use borrow.Author.Needs.{needs}
 use native.Mathlib.Omega.{arith}
-use Rattle.hogunlas.proofs.Answers.{as-accepted, as-refused, report-fits}
-use Rattle.bench.proofs.Answers.{output-refused, output-accepted}
+use Rattle.hogunlas.proofs.JudgeCall.{as-accepted, as-refused, report-within}
+use Rattle.bench.proofs.Outputs.{output-refused, output-accepted}
 use Rattle.bench.proofs.output.output.Statement.{statement}
 use Rattle.bench.proofs.output.output.Tie as tie
 
+-- `let judging = judge_file(input, &mut report)`
 slice-aggregate-judge-file : tie.Need-slice-aggregate-judge-file
 slice-aggregate-judge-file c = search needs
 
 judge-file-requires : tie.Need-judge-file-requires
 judge-file-requires c κs = search needs
 
+-- `Judging::Refused(refusal) => refusal_line(refusal, text)`
 enum-known-judging : tie.Need-enum-known-judging
 enum-known-judging c = search needs
 
 refusal-line-requires : tie.Need-refusal-line-requires
 refusal-line-requires c κs = search needs
 
+-- `Judging::Done(l, _) => print_lines(input, l, &report, text)`
 enum-known-judging-2 : tie.Need-enum-known-judging-2
 enum-known-judging-2 c = search needs
 
@@ -28,11 +31,12 @@ print-lines-requires : tie.Need-print-lines-requires
 print-lines-requires c κs =
     let judged = c .before .before .before .before .before .before in
     let found = as-accepted _ _ _ _ (c .before .before .before .judging2 .given .1) (judged .judge-file .ensures) in
-    (found .reads, omega (arith, found .counted, report-fits found), judged .before .before .before .before .pre .1)
+    (found .reads, omega (arith, found .counted, report-within found), judged .before .before .before .before .pre .1)
 
 same-length : tie.Need-same-length
 same-length c = search needs
 
+-- `Judging::Refused(refusal) => refusal_line(refusal, text)`
 returns : tie.Need-returns
 returns c =
     let judged = c .before .before .before .before .before .before .before .before in
@@ -43,6 +47,7 @@ returns c =
 same-length-2 : tie.Need-same-length-2
 same-length-2 c = search needs
 
+-- `Judging::Done(l, _) => print_lines(input, l, &report, text)`
 returns-2 : tie.Need-returns-2
 returns-2 c =
     let judged = c .before .before .before .before .before .before .before .before .before in

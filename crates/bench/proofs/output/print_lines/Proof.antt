@@ -9,8 +9,10 @@ use Rattle.printout.proofs.Parts.{length-lines}
 use Rattle.printout.specs.Line.{lines}
 use Rattle.program.proofs.Sound.{sound-file}
 use Rattle.program.specs.Layout.{programOf}
-use Rattle.bench.specs.Printing.{Lines}
-use Rattle.bench.proofs.Lines.{lines-none, lines-length, lines-room, lines-next, lines-all}
+use Rattle.program.specs.Limits.{lineSize}
+use Rattle.program.specs.Internal.Bounds.{lineLimit}
+use Rattle.bench.specs.Internal.Printing.{Lines}
+use Rattle.bench.proofs.Lines.{lines-none, lines-length, lines-room, lines-one-more, lines-all}
 use Rattle.bench.proofs.output.print_lines.Statement.{statement}
 use Rattle.bench.proofs.output.print_lines.Tie as tie
 
@@ -20,6 +22,7 @@ Inv-loop file l report text₀ count i₀ at₀ text i at = Lines (lines file (p
 abbrev μ-loop : tie.MeasureT-loop
 μ-loop file l report text₀ count i₀ at₀ text i at = count - i
 
+-- `let count = line_count(l)`
 line-count-requires : tie.Need-line-count-requires Inv-loop μ-loop
 line-count-requires c κs =
     let start = c .before .before .before in
@@ -31,30 +34,31 @@ loop-holds c =
     lines-none (lines (a .file .now) (programOf (a .file .now) (a .l)) (a .report .now)) (a .text .now)
 
 -- all lines
-abbrev all : tie.At-loop Inv-loop μ-loop → List (List ℕ)
-all c =
+abbrev allLines : tie.At-loop Inv-loop μ-loop → List (List ℕ)
+allLines c =
     let a = c .before .before .before .before .before .args in
     lines (a .file .now) (programOf (a .file .now) (a .l)) (a .report .now)
 
 -- there are as many as counted, and not too many for the buffer
-counted : (c : tie.At-loop Inv-loop μ-loop) → (length (all c) ≡ c .before .line-count .result) × (c .before .line-count .result ≤ 8276)
-counted c =
+lines-counted : (c : tie.At-loop Inv-loop μ-loop) → (length (allLines c) ≡ c .before .line-count .result) × (c .before .line-count .result ≤ lineLimit)
+lines-counted c =
     let start = c .before .before .before .before .before in
     let a = start .args in
     let many = c .before .line-count .ensures in
     (length-lines (a .file .now) (a .l) (a .report .now) (sound-file (a .file .now) (a .l) (start .pre .0)) ∙ sym many, omega (arith, many, counts-small (a .file .now) (a .l) (start .pre .0)))
 
 -- there is room for the next line
-room : (c : tie.In-loop Inv-loop μ-loop) → c .before .loop .at + 48 ≤ length (c .before .loop .text)
-room c =
-    let many = counted (c .before) in
+next-line-room : (c : tie.In-loop Inv-loop μ-loop) → c .before .loop .at + lineSize ≤ length (c .before .loop .text)
+next-line-room c =
+    let many = lines-counted (c .before) in
     lines-room (c .before .loop .inv) (omega (arith, many .0, c .loop-test .taken)) (omega (arith, many)) (c .before .before .before .before .before .before .pre .2)
 
+-- `at += write_line(file, l, report, i, &mut text[at..])`
 sub-write-line : tie.Need-sub-write-line Inv-loop μ-loop
-sub-write-line c = omega (arith, room c)
+sub-write-line c = omega (arith, next-line-room c)
 
 part-write-line-start : tie.Need-part-write-line-start Inv-loop μ-loop
-part-write-line-start c = omega (arith, room c)
+part-write-line-start c = omega (arith, next-line-room c)
 
 part-write-line-end : tie.Need-part-write-line-end Inv-loop μ-loop
 part-write-line-end c = omega arith
@@ -65,14 +69,15 @@ write-line-requires c κs =
       start .pre .0,
       start .pre .1,
       omega (arith, c .before .before .before .line-count .ensures, c .before .loop-test .taken),
-      rw (length-take, length-drop) (omega (arith, room (c .before))),
+      rw (length-take, length-drop) (omega (arith, next-line-room (c .before))),
     )
 
 add-at : tie.Need-add-at Inv-loop μ-loop
 add-at c =
     let turn = c .before .before .before .before in
-    omega (arith, c .before .before .write-line .ensures .short, turn .before .loop .inv .short, turn .loop-test .taken, counted (turn .before) .1)
+    omega (arith, c .before .before .write-line .ensures .short, turn .before .loop .inv .short, turn .loop-test .taken, lines-counted (turn .before) .1)
 
+-- `i += 1`
 add-i : tie.Need-add-i Inv-loop μ-loop
 add-i c = omega arith
 
@@ -82,16 +87,16 @@ loop-less c = omega arith
 loop-again : tie.Need-loop-again Inv-loop μ-loop
 loop-again c =
     let turn = c .before .before .before .before in
-    lines-next (turn .before .loop .inv) (omega (arith, counted (turn .before) .0, turn .loop-test .taken)) _ _ (c .before .before .write-line .ensures)
+    lines-one-more (turn .before .loop .inv) (omega (arith, lines-counted (turn .before) .0, turn .loop-test .taken)) _ _ (c .before .before .write-line .ensures)
 
 same-length : tie.Need-same-length Inv-loop μ-loop
 same-length c =
-    let many = counted (c .before) in
+    let many = lines-counted (c .before) in
     let x = c .before .loop .inv in
     lines-length x (omega (arith, x .short, x .within, many, c .before .before .before .before .before .before .pre .2))
 
 returns : tie.Need-returns Inv-loop μ-loop
-returns c = lines-all (c .before .loop .inv) (omega (arith, counted (c .before) .0, c .loop-test .left))
+returns c = lines-all (c .before .loop .inv) (omega (arith, lines-counted (c .before) .0, c .loop-test .left))
 
 pub print-lines-spec : {M : Type 1} → statement M
 print-lines-spec =

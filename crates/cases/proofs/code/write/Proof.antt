@@ -11,9 +11,11 @@ Inv-loop code file₀ size i₀ file i = i ≤ length code
 abbrev μ-loop : tie.MeasureT-loop
 μ-loop code file₀ size i₀ file i = length code - i
 
+-- `let size = 4 * code.len()`
 mul-size : tie.Need-mul-size Inv-loop μ-loop
 mul-size c = search needs
 
+-- `file[12] = size as u8`
 cast-file : tie.Need-cast-file Inv-loop μ-loop
 cast-file c = search needs
 
@@ -23,6 +25,7 @@ element-write-file c = search needs
 loop-holds : tie.Need-loop-holds Inv-loop μ-loop
 loop-holds c = search needs
 
+-- `put(code[i], 13 + 4 * i, file)`
 mul-put : tie.Need-mul-put Inv-loop μ-loop
 mul-put c = search needs
 
@@ -38,6 +41,7 @@ add-put c = search needs
 put-requires : tie.Need-put-requires Inv-loop μ-loop
 put-requires c κs = search needs
 
+-- `i += 1`
 add-i : tie.Need-add-i Inv-loop μ-loop
 add-i c = search needs
 
@@ -47,6 +51,7 @@ loop-less c = search needs
 loop-again : tie.Need-loop-again Inv-loop μ-loop
 loop-again c = search needs
 
+-- `13 + size`
 add-result : tie.Need-add-result Inv-loop μ-loop
 add-result c = search needs
 

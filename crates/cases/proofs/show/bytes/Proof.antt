@@ -14,6 +14,7 @@ abbrev μ-loop : tie.MeasureT-loop
 loop-holds : tie.Need-loop-holds Inv-loop μ-loop
 loop-holds c = search needs
 
+-- `decimal(b" ", wide(of[i]))`
 slice-aggregate-decimal : tie.Need-slice-aggregate-decimal Inv-loop μ-loop
 slice-aggregate-decimal c = search needs
 
@@ -26,6 +27,7 @@ wide-requires c κs = search needs
 decimal-requires : tie.Need-decimal-requires Inv-loop μ-loop
 decimal-requires c κs = search needs
 
+-- `i += 1`
 add-i : tie.Need-add-i Inv-loop μ-loop
 add-i c = search needs
 

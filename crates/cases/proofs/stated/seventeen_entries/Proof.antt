@@ -14,9 +14,11 @@ abbrev μ-loop : tie.MeasureT-loop
 loop-holds : tie.Need-loop-holds Inv-loop μ-loop
 loop-holds c = search needs
 
+-- `n -= 2`
 sub-n : tie.Need-sub-n Inv-loop μ-loop
 sub-n c = search needs
 
+-- `code[place] = while_to(n)`
 while-to-requires : tie.Need-while-to-requires Inv-loop μ-loop
 while-to-requires c κs = search needs
 
@@ -26,6 +28,7 @@ mul-code c = search needs
 array-set-from-code : tie.Need-array-set-from-code Inv-loop μ-loop
 array-set-from-code c = search needs
 
+-- `code[33 - place] = again_to(n)`
 again-to-requires : tie.Need-again-to-requires Inv-loop μ-loop
 again-to-requires c κs = search needs
 
@@ -38,6 +41,7 @@ mul-code-2 c = search needs
 array-set-from-code-2 : tie.Need-array-set-from-code-2 Inv-loop μ-loop
 array-set-from-code-2 c = search needs
 
+-- `place += 1`
 add-place : tie.Need-add-place Inv-loop μ-loop
 add-place c = search needs
 

@@ -6,33 +6,40 @@ use Rattle.hogunlas.proofs.Numbers.{ran-refused}
 use Rattle.hogunlas.proofs.export.hogunlas_run.Statement.{statement}
 use Rattle.hogunlas.proofs.export.hogunlas_run.Tie as tie
 
+-- `let ran = run(file, list, state)`
 run-requires : tie.Need-run-requires
 run-requires c κs = search needs
 
+-- `Ran::Counted(moved, waiting, idle) => RanNumbers ..`
 enum-known-ran : tie.Need-enum-known-ran
 enum-known-ran c = search needs
 
+-- `Ran::Refused(refusal) => RanNumbers ..`
 enum-known-ran-2 : tie.Need-enum-known-ran-2
 enum-known-ran-2 c = search needs
 
+-- `refusal: number(refusal) as u32`
 number-requires : tie.Need-number-requires
 number-requires c κs = search needs
 
 cast-t16 : tie.Need-cast-t16
 cast-t16 c = search needs
 
+-- `detail: detail(refusal) as u64`
 detail-requires : tie.Need-detail-requires
 detail-requires c κs = search needs
 
 same-length : tie.Need-same-length
 same-length c = search needs
 
+-- `Judged::Report(n) => JudgedNumbers ..`
 returns : tie.Need-returns
 returns c = (ap ranNumbers (sym (c .before .ran .given .1) ∙ c .before .before .before .before .before .run .ensures .0), (c .before .before .before .before .before .run .ensures .1 .0, c .before .before .before .before .before .run .ensures .1 .1))
 
 same-length-2 : tie.Need-same-length-2
 same-length-2 c = search needs
 
+-- `Judged::Refused(refusal) => JudgedNumbers ..`
 returns-2 : tie.Need-returns-2
 returns-2 c = (
   ran-refused (c .before .number .result) (c .detail .result) (c .before .before .before .ran2 .given .0 .0) (c .before .number .ensures .0) (c .detail .ensures)

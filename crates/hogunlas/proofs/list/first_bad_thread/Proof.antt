@@ -8,7 +8,7 @@ use native.Mathlib.Nat.{sub-zero}
 use native.Mathlib.Omega.{arith}
 use borrow.Author.Tests.{lt-ltb, le-ltb}
 use Rattle.program.specs.Choice.{firstBad}
-use Rattle.program.proofs.Search.{bad-next, bad-here, bad-done}
+use Rattle.program.proofs.Search.{firstBad-good, firstBad-bad, firstBad-end}
 use Rattle.hogunlas.proofs.list.first_bad_thread.Statement.{statement}
 use Rattle.hogunlas.proofs.list.first_bad_thread.Tie as tie
 
@@ -23,20 +23,23 @@ abbrev μ-loop : tie.MeasureT-loop
 loop-holds : tie.Need-loop-holds Inv-loop μ-loop
 loop-holds c = (omega arith, rw sub-zero)
 
+-- `if threads <= list[i] as usize`
 shared-slice-read-if1 : tie.Need-shared-slice-read-if1 Inv-loop μ-loop
 shared-slice-read-if1 c = omega arith
 
 cast-if1 : tie.Need-cast-if1 Inv-loop μ-loop
 cast-if1 c = omega (arith, c .shared-slice-known .given (c .before .before .loop .i))
 
+-- `return Found::At(i)`
 returns : tie.Need-returns Inv-loop μ-loop
 returns c =
     let a = c .before .before .before .before .args in
     let l = c .before .before .before .loop in
     let good : ℕ → Bool = λ k. ltb (getD (a .list .now) k 0) (a .threads) in
     let bad : good (l .i) ≡ false = le-ltb _ _ (c .if1 .taken) in
-    sym (bad-here good 1 (length (a .list .now) - l .i) (l .i) (omega (arith, c .before .before .loop-test .taken)) bad) ∙ l .inv .1
+    sym (firstBad-bad good 1 (length (a .list .now) - l .i) (l .i) (omega (arith, c .before .before .loop-test .taken)) bad) ∙ l .inv .1
 
+-- `i += 1`
 add-i : tie.Need-add-i Inv-loop μ-loop
 add-i c = omega arith
 
@@ -52,14 +55,15 @@ loop-again c =
     let less : length (a .list .now) - (l .i + 1) ≡ length (a .list .now) - l .i - 1 = omega arith in (
       omega arith,
       rw less
-          (sym (bad-next good 1 (length (a .list .now) - l .i) (l .i) (omega (arith, c .before .before .loop-test .taken)) fine) ∙ l .inv .1),
+          (sym (firstBad-good good 1 (length (a .list .now) - l .i) (l .i) (omega (arith, c .before .before .loop-test .taken)) fine) ∙ l .inv .1),
     )
 
+-- `Found::Nowhere`
 returns-2 : tie.Need-returns-2 Inv-loop μ-loop
 returns-2 c =
     let a = c .before .before .args in
     let l = c .before .loop in
-    sym (bad-done (λ k. ltb (getD (a .list .now) k 0) (a .threads)) 1 (length (a .list .now) - l .i) (l .i) (omega (arith, c .loop-test .left))) ∙ l .inv .1
+    sym (firstBad-end (λ k. ltb (getD (a .list .now) k 0) (a .threads)) 1 (length (a .list .now) - l .i) (l .i) (omega (arith, c .loop-test .left))) ∙ l .inv .1
 
 pub first-bad-thread-spec : {M : Type 1} → statement M
 first-bad-thread-spec =

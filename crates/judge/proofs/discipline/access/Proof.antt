@@ -3,12 +3,14 @@ use borrow.Author.Needs.{needs}
 use Rattle.judge.proofs.discipline.access.Statement.{statement}
 use Rattle.judge.proofs.discipline.access.Tie as tie
 
+-- `permits(kind_of(s, l, v), code, locks, writes)`
 kind-of-requires : tie.Need-kind-of-requires
 kind-of-requires c κs = search needs
 
 permits-requires : tie.Need-permits-requires
 permits-requires c κs = search needs
 
+-- `checked ..`
 checked-requires : tie.Need-checked-requires
 checked-requires c κs = search needs
 

@@ -2,16 +2,18 @@
 use borrow.Author.Needs.{needs}
 use mathlib.Core.Path.{sym, _∙_, ap}
 use Rattle.judge.specs.LockSet.{empty, same}
-use Rattle.judge.specs.Scan.{ending}
+use Rattle.judge.specs.Internal.Scan.{ending}
 use Rattle.judge.proofs.scan.code_end.Statement.{statement}
 use Rattle.judge.proofs.scan.code_end.Tie as tie
 
+-- `if locks.same(LockSet::empty())`
 empty-requires : tie.Need-empty-requires
 empty-requires c κs = search needs
 
 same-requires : tie.Need-same-requires
 same-requires c κs = search needs
 
+-- `put(report, here.at, sofar.report_byte())`
 report-byte-requires : tie.Need-report-byte-requires
 report-byte-requires c κs = search needs
 
@@ -21,12 +23,14 @@ put-requires c κs = search needs
 same-length : tie.Need-same-length
 same-length c = search needs
 
+-- `return Verdict::Allowed`
 returns : tie.Need-returns
 unfolding ending
 returns c frames =
     let none = sym (c .before .before .before .before .before .before .same .ensures ∙ ap (same (c .before .before .before .before .before .before .before .before .before .args .locks)) (c .before .before .before .before .before .before .before .empty .ensures)) ∙ c .before .before .before .before .before .if1 .taken in
     rw (c .before .before .put .ensures, c .before .before .before .report-byte .ensures, none)
 
+-- `Verdict::Refused(Refusal::SetsDiffer(here.d))`
 returns-2 : tie.Need-returns-2
 unfolding ending
 returns-2 c frames =

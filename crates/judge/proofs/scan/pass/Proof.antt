@@ -1,15 +1,18 @@
 -- `pass` meets its contract. Assumes nothing.
 use borrow.Author.Needs.{needs}
-use Rattle.judge.specs.Scan.{pass}
+use Rattle.judge.specs.Internal.Scan.{pass}
 use Rattle.judge.proofs.scan.pass.Statement.{statement}
 use Rattle.judge.proofs.scan.pass.Tie as tie
 
+-- `let verdict = offence(s, l, here.code, here.d, i, locks)`
 offence-requires : tie.Need-offence-requires
 offence-requires c κs = search needs
 
+-- `if let Verdict::Refused(refusal) = verdict`
 enum-known-verdict : tie.Need-enum-known-verdict
 enum-known-verdict c = search needs
 
+-- `return Passed::Refused(refusal)`
 returns : tie.Need-returns
 unfolding pass
 returns c frames =
@@ -19,15 +22,18 @@ returns c frames =
 enum-told : tie.Need-enum-told
 enum-told c = search needs
 
+-- `let own = atomicity_of(s, l, here.code, i, locks)`
 atomicity-of-requires : tie.Need-atomicity-of-requires
 atomicity-of-requires c κs = search needs
 
+-- `put(report, here.at, own.report_byte())`
 report-byte-requires : tie.Need-report-byte-requires
 report-byte-requires c κs = search needs
 
 put-requires : tie.Need-put-requires
 put-requires c κs = search needs
 
+-- `passing(i, sofar.then(own))`
 then-requires : tie.Need-then-requires
 then-requires c κs = search needs
 
@@ -37,6 +43,7 @@ passing-requires c κs = search needs
 same-length : tie.Need-same-length
 same-length c = search needs
 
+-- `passing(i, sofar.then(own))`
 returns-2 : tie.Need-returns-2
 unfolding pass
 returns-2 c frames =

@@ -3,12 +3,15 @@ use borrow.Author.Needs.{needs}
 use Rattle.judge.proofs.turn.closing.Statement.{statement}
 use Rattle.judge.proofs.turn.closing.Tie as tie
 
+-- `step: Step::Leave(frame.opener, own.report_byte())`
 report-byte-requires : tie.Need-report-byte-requires
 report-byte-requires c κs = search needs
 
+-- `depth: depth - 1`
 sub-t8 : tie.Need-sub-t8
 sub-t8 c = search needs
 
+-- `sofar: before.then(own)`
 then-requires : tie.Need-then-requires
 then-requires c κs = search needs
 

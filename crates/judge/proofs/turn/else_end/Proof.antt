@@ -3,9 +3,11 @@ use borrow.Author.Needs.{needs}
 use Rattle.judge.proofs.turn.else_end.Statement.{statement}
 use Rattle.judge.proofs.turn.else_end.Tie as tie
 
+-- `if then_locks.same(locks)`
 same-requires : tie.Need-same-requires
 same-requires c κs = search needs
 
+-- `return closing(first.join(sofar), depth, then_locks, frame)`
 join-requires : tie.Need-join-requires
 join-requires c κs = search needs
 
@@ -15,6 +17,7 @@ closing-requires c κs = search needs
 returns : tie.Need-returns
 returns c = rw (c .closing .ensures, c .before .join .ensures, ← c .before .before .before .same .ensures, c .before .before .if1 .taken)
 
+-- `refusing(Refusal::SetsDiffer(d))`
 refusing-requires : tie.Need-refusing-requires
 refusing-requires c κs = search needs
 

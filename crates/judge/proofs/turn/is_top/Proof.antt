@@ -4,6 +4,7 @@ use Rattle.judge.specs.Judging.{isTop}
 use Rattle.judge.proofs.turn.is_top.Statement.{statement}
 use Rattle.judge.proofs.turn.is_top.Tie as tie
 
+-- `a.report_byte() == Atomicity::Top.report_byte()`
 report-byte-requires : tie.Need-report-byte-requires
 report-byte-requires c κs = search needs
 

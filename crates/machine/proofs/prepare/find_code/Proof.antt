@@ -5,8 +5,9 @@ use mathlib.Core.Path.{_≡_}
 use native.Mathlib.Omega.{arith}
 use borrow.Author.Needs.{needs}
 use lib.ListN.{length, getD, length-set}
-use Rattle.program.specs.Sound.{SoundSection, countAt}
-use Rattle.machine.specs.Kept.{Located}
+use Rattle.program.specs.Limits.{threadLimit}
+use Rattle.program.specs.Internal.Sound.{SoundSection, countAt}
+use Rattle.machine.specs.Internal.Kept.{Located}
 use Rattle.machine.proofs.Start.{Sections, sections-start, sections-next, section-sound, section-located, located-next}
 use Rattle.machine.proofs.prepare.find_code.Statement.{statement}
 use Rattle.machine.proofs.prepare.find_code.Tie as tie
@@ -14,8 +15,8 @@ use Rattle.machine.proofs.prepare.find_code.Tie as tie
 abbrev Inv-loop : tie.InvT-loop
 Inv-loop s l starts₀ sizes₀ at₀ t₀ starts sizes at t =
     (t ≤ l .threads)
-    × (length starts ≡ 8)
-    × (length sizes ≡ 8)
+    × (length starts ≡ threadLimit)
+    × (length sizes ≡ threadLimit)
     × Sections s l t at
     × ((u : ℕ) → u < t → Located s l (getD starts u 0) (getD sizes u 0) u)
 
@@ -23,13 +24,14 @@ abbrev μ-loop : tie.MeasureT-loop
 μ-loop s l starts₀ sizes₀ at₀ t₀ starts sizes at t = l .threads - t
 
 -- the section at hand
-sound-here : (c : tie.Then1 Inv-loop μ-loop)
+section-at-hand : (c : tie.Then1 Inv-loop μ-loop)
     → let a = c .before .before .before .before .before .args in SoundSection (a .s .now) (a .l .locks) (a .l .variables) (c .before .before .loop .at)
-sound-here c =
+section-at-hand c =
     let a = c .before .before .before .before .before .args in
     let o = c .before .before .loop in
     section-sound (a .s .now) (a .l) (o .t) (o .at) (c .if1 .taken) (o .inv .3)
 
+-- `let mut at = RECORDS_START + VARIABLE_SIZE * l.variables`
 mul-at : tie.Need-mul-at Inv-loop μ-loop
 mul-at c = search needs
 
@@ -41,11 +43,13 @@ loop-holds c =
     let b = c .before .before in
     (search needs, b .pre .1, b .pre .2, sections-start (b .args .s .now) (b .args .l) (b .pre .0), λ u h. absurd (omega arith))
 
+-- `let count = code_count(s, at)`
 code-count-requires : tie.Need-code-count-requires Inv-loop μ-loop
-code-count-requires c κs = sound-here c .head
+code-count-requires c κs = section-at-hand c .head
 
+-- `starts[t] = at + 2`
 add-starts : tie.Need-add-starts Inv-loop μ-loop
-add-starts c = omega (arith, sound-here (c .before) .head, c .before .before .before .before .before .before .good .0 .0)
+add-starts c = omega (arith, section-at-hand (c .before) .head, c .before .before .before .before .before .before .good .0 .0)
 
 mul-starts : tie.Need-mul-starts Inv-loop μ-loop
 mul-starts c = search needs
@@ -53,21 +57,24 @@ mul-starts c = search needs
 element-write-starts : tie.Need-element-write-starts Inv-loop μ-loop
 element-write-starts c = search needs
 
+-- `sizes[t] = count`
 mul-sizes : tie.Need-mul-sizes Inv-loop μ-loop
 mul-sizes c = search needs
 
 element-write-sizes : tie.Need-element-write-sizes Inv-loop μ-loop
 element-write-sizes c = search needs
 
+-- `at = at + 2 + INSTRUCTION_SIZE * count`
 add-at-2 : tie.Need-add-at-2 Inv-loop μ-loop
-add-at-2 c = omega (arith, sound-here (c .before) .head, c .before .before .before .before .before .before .good .0 .0)
+add-at-2 c = omega (arith, section-at-hand (c .before) .head, c .before .before .before .before .before .before .good .0 .0)
 
 mul-at-2 : tie.Need-mul-at-2 Inv-loop μ-loop
-mul-at-2 c = omega (arith, sound-here (c .before) .few, c .code-count .ensures)
+mul-at-2 c = omega (arith, section-at-hand (c .before) .few, c .code-count .ensures)
 
 add-at-3 : tie.Need-add-at-3 Inv-loop μ-loop
-add-at-3 c = omega (arith, sound-here (c .before) .whole, c .code-count .ensures, c .before .before .before .before .before .before .good .0 .0)
+add-at-3 c = omega (arith, section-at-hand (c .before) .whole, c .code-count .ensures, c .before .before .before .before .before .before .good .0 .0)
 
+-- `t += 1`
 add-t : tie.Need-add-t Inv-loop μ-loop
 add-t c = search needs
 

@@ -6,6 +6,7 @@ use borrow.Author.Needs.{needs}
 use lib.ListN.{length, take, length-set}
 use lib.Seq.{take-all}
 use Rattle.program.specs.Layout.{programOf}
+use Rattle.program.specs.Limits.{variableLimit}
 use Rattle.machine.specs.State.{start}
 use Rattle.machine.proofs.Start.{length-initial, initial-next}
 use Rattle.machine.proofs.prepare.initial_values.Statement.{statement}
@@ -13,7 +14,7 @@ use Rattle.machine.proofs.prepare.initial_values.Tie as tie
 
 abbrev Inv-loop : tie.InvT-loop
 Inv-loop s l variables₀ i₀ variables i =
-    (i ≤ l .variables) × (length variables ≡ 64) × (take i variables ≡ take i (start (programOf s l) .variables))
+    (i ≤ l .variables) × (length variables ≡ variableLimit) × (take i variables ≡ take i (start (programOf s l) .variables))
 
 abbrev μ-loop : tie.MeasureT-loop
 μ-loop s l variables₀ i₀ variables i = l .variables - i
@@ -21,6 +22,7 @@ abbrev μ-loop : tie.MeasureT-loop
 loop-holds : tie.Need-loop-holds Inv-loop μ-loop
 loop-holds c = search needs
 
+-- `variables[i] = initial_at(s, RECORDS_START + VARIABLE_SIZE * i)`
 mul-initial-at : tie.Need-mul-initial-at Inv-loop μ-loop
 mul-initial-at c = search needs
 
@@ -36,6 +38,7 @@ mul-variables c = search needs
 element-write-variables : tie.Need-element-write-variables Inv-loop μ-loop
 element-write-variables c = search needs
 
+-- `i += 1`
 add-i : tie.Need-add-i Inv-loop μ-loop
 add-i c = search needs
 

@@ -5,23 +5,27 @@ use lib.Seq.{sets}
 use Rattle.program.specs.Layout.{programOf}
 use Rattle.machine.specs.State.{fresh, stateBytes}
 use Rattle.machine.specs.Run.{Run, run}
-use Rattle.machine.specs.Kept.{ranIn}
-use Rattle.machine.proofs.StateBytes.{sets-front}
+use Rattle.machine.specs.Internal.Kept.{finalIn}
+use Rattle.program.proofs.Lists.{sets-front}
 use Rattle.machine.proofs.Start.{start-in}
 use Rattle.machine.proofs.Shape.{length-end-file}
 use borrow.Author.Needs.{needs}
 use Rattle.machine.proofs.run.run_list.Statement.{statement}
 use Rattle.machine.proofs.run.run_list.Tie as tie
 
+-- `initial_values(s, l, &mut variables)`
 initial-values-requires : tie.Need-initial-values-requires
 initial-values-requires c κs = search needs
 
+-- `find_code(s, l, &mut starts, &mut sizes)`
 find-code-requires : tie.Need-find-code-requires
 find-code-requires c κs = search needs
 
+-- `let ran = entries(s, l, list, starts, sizes, &mut variables, &mut locks)`
 entries-requires : tie.Need-entries-requires
 entries-requires c κs = search needs
 
+-- `write_state(out, l, &variables, &locks, threads)`
 slice-aggregate-write-state : tie.Need-slice-aggregate-write-state
 slice-aggregate-write-state c = search needs
 
@@ -38,12 +42,12 @@ same-length : tie.Need-same-length
 same-length c = search needs
 
 -- what the entries left is the whole list's run
-ran : (c : tie.After-entries)
+entries-ran : (c : tie.After-entries)
     → let a = c .before .before .before .before .before .before .before .before .before .before .before .args in
     run (programOf (a .s .now) (a .l)) (a .list .now)
-    ≡ ranIn (a .l) (c .entries .result) (c .entries .last .1 .1 .1 .1 .1 .0) (c .entries .last .1 .1 .1 .1 .1 .1 .0)
+    ≡ finalIn (a .l) (c .entries .result) (c .entries .last .1 .1 .1 .1 .1 .0) (c .entries .last .1 .1 .1 .1 .1 .1 .0)
 unfolding run fresh
-ran c =
+entries-ran c =
     let b = c .before .before .before .before .before .before .before .before .before .before .before in
     let a = b .args in
     rw (← start-in (a .s .now) (a .l) (c .before .before .before .before .before .before .initial-values .last .1 .1 .0) (b .pre .0 .locks) (b .pre .0 .threads) (c .before .before .before .before .before .before .initial-values .ensures .1))
@@ -54,11 +58,11 @@ returns c =
     let b = c .before .before .before .before .before .before .before .before .before .before .before .before .before .before .before .before .before .before .before in
     let a = b .args in
     let p = programOf (a .s .now) (a .l) in
-    let e = ran (c .before .before .before .before .before .before .before .before) in (
+    let e = entries-ran (c .before .before .before .before .before .before .before .before) in (
       ap (λ (r : Run). r .counts) (sym e),
       c .before .before .before .write-state .ensures
           ∙ ap (λ (r : Run). sets (a .out .now) 0 (stateBytes (r .state))) (sym e)
-          ∙ sets-front (stateBytes (run p (a .list .now) .state)) (a .out .now) (omega (arith, length-end-file (a .s .now) (a .l) (a .list .now), b .pre .2)),
+          ∙ sets-front (a .out .now) (stateBytes (run p (a .list .now) .state)) (omega (arith, length-end-file (a .s .now) (a .l) (a .list .now), b .pre .2)),
     )
 
 pub run-list-spec : {M : Type 1} → statement M

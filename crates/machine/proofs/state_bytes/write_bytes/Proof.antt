@@ -5,7 +5,7 @@ use native.Mathlib.Omega.{arith}
 use borrow.Author.Needs.{needs}
 use lib.ListN.{length, take, length-set}
 use lib.Seq.{sets}
-use Rattle.machine.proofs.StateBytes.{write-byte}
+use Rattle.program.proofs.Lists.{sets-copied}
 use Rattle.machine.proofs.state_bytes.write_bytes.Statement.{statement}
 use Rattle.machine.proofs.state_bytes.write_bytes.Tie as tie
 
@@ -18,6 +18,7 @@ abbrev μ-loop : tie.MeasureT-loop
 loop-holds : tie.Need-loop-holds Inv-loop μ-loop
 loop-holds c = (search needs, refl, refl)
 
+-- `out[at + i] = bytes[i]`
 shared-slice-read-out : tie.Need-shared-slice-read-out Inv-loop μ-loop
 shared-slice-read-out c = omega arith
 
@@ -27,6 +28,7 @@ add-out c = omega arith
 slice-write-out : tie.Need-slice-write-out Inv-loop μ-loop
 slice-write-out c = omega arith
 
+-- `i += 1`
 add-i : tie.Need-add-i Inv-loop μ-loop
 add-i c = omega arith
 
@@ -37,7 +39,7 @@ loop-again : tie.Need-loop-again Inv-loop μ-loop
 loop-again c =
     let o = c .before .before .loop in
     let a = c .before .before .before .args in
-    (omega arith, simp length-set (o .inv .1), rw (o .inv .2) (write-byte (a .out .now) (a .at) (a .bytes .now) (o .i) (omega arith)))
+    (omega arith, simp length-set (o .inv .1), rw (o .inv .2) (sets-copied (a .out .now) (a .at) (a .bytes .now) (o .i) 0 (omega arith)))
 
 same-length : tie.Need-same-length Inv-loop μ-loop
 same-length c = c .before .loop .inv .1

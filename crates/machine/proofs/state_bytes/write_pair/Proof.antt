@@ -7,12 +7,14 @@ use Rattle.machine.specs.State.{pairBytes}
 use Rattle.machine.proofs.state_bytes.write_pair.Statement.{statement}
 use Rattle.machine.proofs.state_bytes.write_pair.Tie as tie
 
+-- `out[at] = (x / 256 % 256) as u8`
 cast-out : tie.Need-cast-out
 cast-out c = search needs
 
 slice-write-out : tie.Need-slice-write-out
 slice-write-out c = search needs
 
+-- `out[at + 1] = (x % 256) as u8`
 cast-out-2 : tie.Need-cast-out-2
 cast-out-2 c = search needs
 

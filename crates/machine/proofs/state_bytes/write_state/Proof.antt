@@ -2,24 +2,29 @@
 use Prim.Native.Nat.{_+_, _*_}
 use mathlib.Core.Path.{_∙_}
 use lib.Seq.{length-take-le}
-use Rattle.machine.specs.Kept.{stateIn}
+use Rattle.machine.specs.Internal.Kept.{stateIn}
 use Rattle.machine.proofs.StateBytes.{write-state, length-first-words}
 use borrow.Author.Needs.{needs}
 use Rattle.machine.proofs.state_bytes.write_state.Statement.{statement}
 use Rattle.machine.proofs.state_bytes.write_state.Tie as tie
 
+-- `let past_variables = WORD_SIZE * l.variables`
 mul-past-variables : tie.Need-mul-past-variables
 mul-past-variables c = search needs
 
+-- `let past_locks = past_variables + l.locks`
 add-past-locks : tie.Need-add-past-locks
 add-past-locks c = search needs
 
+-- `write_words(out, 0, l.variables, variables)`
 write-words-requires : tie.Need-write-words-requires
 write-words-requires c κs = search needs
 
+-- `write_bytes(out, past_variables, l.locks, locks)`
 write-bytes-requires : tie.Need-write-bytes-requires
 write-bytes-requires c κs = search needs
 
+-- `write_threads(out, past_locks, l.threads, threads)`
 write-threads-requires : tie.Need-write-threads-requires
 write-threads-requires c κs = search needs
 

@@ -3,14 +3,17 @@ use mathlib.Core.Path.{_∙_, sym}
 use native.Mathlib.Omega.{arith}
 use borrow.Author.Needs.{needs}
 use lib.Seq.{take-all}
+use Rattle.program.specs.Limits.{registerCount}
 use Rattle.machine.specs.State.{each, pairBytes, wordBytes, threadBytes}
-use Rattle.machine.proofs.StateBytes.{sets-append}
+use Rattle.program.proofs.Lists.{sets-append}
 use Rattle.machine.proofs.state_bytes.write_thread.Statement.{statement}
 use Rattle.machine.proofs.state_bytes.write_thread.Tie as tie
 
+-- `write_pair(out, at, th.place)`
 write-pair-requires : tie.Need-write-pair-requires
 write-pair-requires c κs = search needs
 
+-- `write_words(out, at + 2, REGISTER_COUNT, &r)`
 add-write-words : tie.Need-add-write-words
 add-write-words c = search needs
 
@@ -28,8 +31,8 @@ unfolding threadBytes pairBytes
 returns c =
     let a = c .before .before .before .before .before .before .before .before .before .before .before .args in
     c .before .before .write-words .ensures
-    ∙ rw (c .before .before .before .before .before .before .before .before .write-pair .ensures, take-all 8 (a .th .registers) (omega arith))
-    (sym (sets-append (pairBytes (a .th .place)) (each wordBytes (a .th .registers)) (a .out .now) (a .at)))
+    ∙ rw (c .before .before .before .before .before .before .before .before .write-pair .ensures, take-all registerCount (a .th .registers) (omega arith))
+    (sym (sets-append (a .out .now) (a .at) (pairBytes (a .th .place)) (each wordBytes (a .th .registers))))
 
 pub write-thread-spec : {M : Type 1} → statement M
 write-thread-spec =

@@ -5,7 +5,8 @@ use native.Mathlib.Omega.{arith}
 use borrow.Author.Needs.{needs}
 use lib.ListN.{length, take}
 use lib.Seq.{sets}
-use Rattle.machine.specs.Kept.{nobody, EightRegisters}
+use Rattle.program.specs.Limits.{threadLimit, threadSize}
+use Rattle.machine.specs.Internal.Kept.{nobody, EightRegisters}
 use Rattle.machine.specs.State.{each, threadBytes}
 use Rattle.machine.proofs.StateBytes.{write-each, length-first-threads}
 use Rattle.machine.proofs.state_bytes.write_threads.Statement.{statement}
@@ -21,6 +22,7 @@ loop-holds : tie.Need-loop-holds Inv-loop μ-loop
 unfolding each
 loop-holds c = (search needs, refl, refl)
 
+-- `write_thread(out, at + THREAD_SIZE * i, threads[i])`
 mul-write-thread : tie.Need-mul-write-thread Inv-loop μ-loop
 mul-write-thread c = search needs
 
@@ -37,6 +39,7 @@ write-thread-requires : tie.Need-write-thread-requires Inv-loop μ-loop
 unfolding EightRegisters
 write-thread-requires c κs = (omega arith, c .before .before .before .before .before .pre .2 (c .before .before .before .loop .i) (omega arith))
 
+-- `i += 1`
 add-i : tie.Need-add-i Inv-loop μ-loop
 add-i c = search needs
 
@@ -50,12 +53,12 @@ loop-again c =
     let s = c .before .before .before .before .before .before .before .before in
     let a = s .args in
     let w = c .before .before .write-thread in
-    let e : length (a .t4) ≡ 8 = search needs in (
+    let e : length (a .t4) ≡ threadLimit = search needs in (
       omega arith,
       w .kept .0 ∙ o .inv .1,
       w .ensures
           ∙ rw (o .inv .2)
-          (write-each threadBytes 34 (a .out .now) (a .at) (a .t4) (o .i) nobody (omega arith)
+          (write-each threadBytes threadSize (a .out .now) (a .at) (a .t4) (o .i) nobody (omega arith)
           (length-first-threads (a .t4) (o .i) (omega arith) (λ i h. s .pre .2 i (omega arith)))),
     )
 

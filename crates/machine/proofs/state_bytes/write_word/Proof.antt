@@ -7,12 +7,14 @@ use Rattle.machine.specs.State.{wordBytes}
 use Rattle.machine.proofs.state_bytes.write_word.Statement.{statement}
 use Rattle.machine.proofs.state_bytes.write_word.Tie as tie
 
+-- `out[at] = (x / 16777216 % 256) as u8`
 cast-out : tie.Need-cast-out
 cast-out c = search needs
 
 slice-write-out : tie.Need-slice-write-out
 slice-write-out c = search needs
 
+-- `out[at + 1] = (x / 65536 % 256) as u8`
 cast-out-2 : tie.Need-cast-out-2
 cast-out-2 c = search needs
 
@@ -22,6 +24,7 @@ add-out c = search needs
 slice-write-out-2 : tie.Need-slice-write-out-2
 slice-write-out-2 c = simp length-set (omega arith)
 
+-- `out[at + 2] = (x / 256 % 256) as u8`
 cast-out-3 : tie.Need-cast-out-3
 cast-out-3 c = search needs
 
@@ -31,6 +34,7 @@ add-out-2 c = search needs
 slice-write-out-3 : tie.Need-slice-write-out-3
 slice-write-out-3 c = simp length-set (omega arith)
 
+-- `out[at + 3] = (x % 256) as u8`
 cast-out-4 : tie.Need-cast-out-4
 cast-out-4 c = search needs
 

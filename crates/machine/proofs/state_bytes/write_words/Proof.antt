@@ -20,6 +20,7 @@ loop-holds : tie.Need-loop-holds Inv-loop μ-loop
 unfolding each
 loop-holds c = (search needs, refl, refl)
 
+-- `write_word(out, at + WORD_SIZE * i, words[i])`
 mul-write-word : tie.Need-mul-write-word Inv-loop μ-loop
 mul-write-word c = omega arith
 
@@ -35,6 +36,7 @@ shared-slice-read-write-word c = omega arith
 write-word-requires : tie.Need-write-word-requires Inv-loop μ-loop
 write-word-requires c κs = omega arith
 
+-- `i += 1`
 add-i : tie.Need-add-i Inv-loop μ-loop
 add-i c = omega arith
 

@@ -5,9 +5,11 @@ use Rattle.machine.specs.Step.{branch}
 use Rattle.machine.proofs.thread.branched.Statement.{statement}
 use Rattle.machine.proofs.thread.branched.Tie as tie
 
+-- `if register(r, a) == 0`
 register-requires : tie.Need-register-requires
 register-requires c κs = search needs
 
+-- `return place + n as usize + 1`
 add-result : tie.Need-add-result
 add-result c = search needs
 
@@ -18,6 +20,7 @@ returns : tie.Need-returns
 unfolding branch
 returns c = rw (← c .before .register .ensures, eq-eqb _ _ (c .if1 .taken))
 
+-- `place + 1`
 add-result-3 : tie.Need-add-result-3
 add-result-3 c = search needs
 

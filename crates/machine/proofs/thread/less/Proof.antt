@@ -3,9 +3,11 @@ use borrow.Author.Tests.{lt-ltb, le-ltb}
 use Rattle.machine.proofs.thread.less.Statement.{statement}
 use Rattle.machine.proofs.thread.less.Tie as tie
 
+-- where the test holds
 returns : tie.Need-returns
 returns c = rw (lt-ltb _ _ (c .if1 .taken))
 
+-- where it does not
 returns-2 : tie.Need-returns-2
 returns-2 c = rw (le-ltb _ _ (c .if1 .left))
 

@@ -39,7 +39,9 @@ use denote.Triple.Spec.{Meets, tripleOf}
 use denote.Triple.Table.{entered, cited}
 use denote.Triple.Walked.{says, needs, Stays, stay-ref, stay-none, walkOf, AllGo, goes-none, goes-ref, Walks, ends-at, walked, walk-meets}
 use denote.Exit.{yes}
-use Rattle.program.specs.Sound.{FieldsGood}
+use Rattle.program.specs.Limits.{lockLimit, variableLimit}
+use Rattle.program.specs.Internal.Bounds.{largestPlace}
+use Rattle.program.specs.Internal.Sound.{FieldsGood}
 use Rattle.program.specs.declared.instruction.Instruction.{Instruction}
 use Rattle.program.proofs.instruction.Instruction as I
 use Rattle.program.proofs.instruction.Instruction.Laws as I′
@@ -100,13 +102,13 @@ module _ {M : Type 1} (𝓤 : URA M) (H : Heap 𝓤) (A : Atoms 𝓤) (W : Given
   abbrev to-after : After 𝓤 H A at-mem run .Ghost
   to-after = ((tt, tt, tt, (i, (v, (h, tt))), (spells i, (vint w32 v ∷ [], (vals h, tt)))), tt)
 
-  goes-after : Is T.the-row h (vals h) → FieldsGood 16 64 i × (h .place ≤ 65535) → ent 𝓤 (emp 𝓤) (After 𝓤 H A at-mem run .pre to-after)
+  goes-after : Is T.the-row h (vals h) → FieldsGood lockLimit variableLimit i × (h .place ≤ largestPlace) → ent 𝓤 (emp 𝓤) (After 𝓤 H A at-mem run .pre to-after)
   goes-after h-is good =
       qed W [] ∵ says ! good $ nothing ! $ frame ! $ nothing ! $ owned ! T.the-row (Is T.the-row) (struct.makes T.the-type T′.the-plain 𝓤 H A) h _ h-is $ fjoin ! $
       owned ! u32 (Is u32) (uint-makes 𝓤 H A W w32) v _ (refl, v-fits) $ fjoin ! $ owned ! I.the-row (Is I.the-row) (enum.makes I.the-type I′.the-plain 𝓤 H A) i _ i-is $ fjoin ! $ done !
 
   module _ (C : Calls 𝓤 H) (Λ : Loops 𝓤 H) (fm : FmC 𝓤 H (W .laws) C) (known : Triple 𝓤 (C #thread-after) (After 𝓤 H A at-mem run)) where
-    walk : FieldsGood 16 64 i × (h .place ≤ 65535)
+    walk : FieldsGood lockLimit variableLimit i × (h .place ≤ largestPlace)
         → ent 𝓤 (onEntry 𝓤 H A move-thread.signature (κ, tt) (q, tt) x at) (WpFn 𝓤 H C Λ code.function (vptr b o ∷ enum.val I.the-type I′.the-laws i ∷ vint w32 v ∷ []) Post)
     walk good =
         qed W ((‵ (flft κ q) ⊛ ‵ ftrue) ∷ ‵ (owns (MutRef (named 0) κ T.the-row ∷ I.the-row ∷ u32 ∷ []) x at) ∷ []) ∵
@@ -139,7 +141,7 @@ module _ {M : Type 1} (𝓤 : URA M) (H : Heap 𝓤) (A : Atoms 𝓤) (W : Given
       → Walks 𝓤 H A move-thread.ended stayed (WpFn 𝓤 H C Λ code.function) (move-thread.clauses 𝓤 H A at-mem run)
   move-thread-walks C Λ fm known = walked 𝓤 H A move-thread.ended stayed (move-thread.clauses 𝓤 H A at-mem run) (WpFn 𝓤 H C Λ code.function)
       (λ κs. (ptr-vals, (spells, (uint-vals w32, tt)))) (λ κs. (mut-tells (named 0) (κs .0) T.the-row, (enum.tells I.the-type I′.the-laws, (uint-tells w32, tt))))
-      (λ κs qs bounds a g are. needs 𝓤 (FieldsGood 16 64 (a .1 .0) × (a .0 .now .place ≤ 65535)) _
+      (λ κs qs bounds a g are. needs 𝓤 (FieldsGood lockLimit variableLimit (a .1 .0) × (a .0 .now .place ≤ largestPlace)) _
       (walk 𝓤 H A W at-mem run (κs .0) (qs .0) (a .0 .ptr .0) (a .0 .ptr .1) (a .0 .name) (a .0 .now) (a .1 .0) (a .1 .1 .0) (are .1 .0) (are .1 .1 .0 .1) C Λ fm known))
 
   goes : AllGo 𝓤 H A W 1 (move-thread.signature .params) (move-thread.ended .kept) stayed

@@ -4,9 +4,11 @@ use Rattle.machine.specs.Step.{threadAfter}
 use Rattle.machine.proofs.thread.thread_after.Statement.{statement}
 use Rattle.machine.proofs.thread.thread_after.Tie as tie
 
+-- `let registers = registers_after(i, value, r)`
 registers-after-requires : tie.Need-registers-after-requires
 registers-after-requires c κs = search needs
 
+-- `place: place_after(i, r, th.place)`
 place-after-requires : tie.Need-place-after-requires
 place-after-requires c κs = search needs
 

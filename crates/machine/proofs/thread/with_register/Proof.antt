@@ -1,74 +1,62 @@
 -- `with_register` meets its contract: each of the eight elements is the one chosen. Assumes nothing.
-use Prim.Native.Nat.{ℕ, zero, suc}
-use mathlib.Core.Path.{_≡_, refl, ap}
-use mathlib.Core.List.{List, [], _∷_}
-use lib.ListN.{length, getD, set}
-use lib.Dec.{eqb, eqb·zero-suc, eqb·suc-zero, eqb·suc-suc}
+use mathlib.Core.Path.{_≡_}
+use lib.ListN.{length}
 use borrow.Author.Needs.{needs}
-use Rattle.program.specs.Choice.{choose}
+use Rattle.program.proofs.Lists.{listed, listed-set}
+use Rattle.program.specs.Limits.{registerCount}
 use Rattle.machine.proofs.thread.with_register.Statement.{statement}
 use Rattle.machine.proofs.thread.with_register.Tie as tie
 
--- n elements, one by one
-listed : ℕ → (ℕ → ℕ) → List ℕ
-listed zero f = []
-listed (suc n) f = f 0 ∷ listed n (λ k. f (suc k))
-
--- a list is its elements
-listed-self : (r : List ℕ) → listed (length r) (λ k. getD r k 0) ≡ r
-unfolding listed
-listed-self [] = refl
-listed-self (y ∷ ys) = ap (λ (zs : List ℕ). y ∷ zs) (listed-self ys)
-
--- a list with another element at a is, element by element, that one at a and its own elsewhere
-listed-set : (r : List ℕ) (a x : ℕ) → listed (length r) (λ k. choose (eqb a k) x (getD r k 0)) ≡ set r a x
-unfolding listed
-listed-set [] a x = refl
-listed-set (y ∷ ys) zero x = simp eqb·zero-suc (ap (λ (zs : List ℕ). x ∷ zs) (listed-self ys))
-listed-set (y ∷ ys) (suc a) x = simp (eqb·suc-zero, eqb·suc-suc) (ap (λ (zs : List ℕ). y ∷ zs) (listed-set ys a x))
-
+-- `chosen(a, 0, x, registers[0])`
 array-read-chosen : tie.Need-array-read-chosen
 array-read-chosen c = search needs
 
 chosen-requires : tie.Need-chosen-requires
 chosen-requires c κs = search needs
 
+-- `chosen(a, 1, x, registers[1])`
 array-read-chosen-2 : tie.Need-array-read-chosen-2
 array-read-chosen-2 c = search needs
 
 chosen-requires-2 : tie.Need-chosen-requires-2
 chosen-requires-2 c κs = search needs
 
+-- `chosen(a, 2, x, registers[2])`
 array-read-chosen-3 : tie.Need-array-read-chosen-3
 array-read-chosen-3 c = search needs
 
 chosen-requires-3 : tie.Need-chosen-requires-3
 chosen-requires-3 c κs = search needs
 
+-- `chosen(a, 3, x, registers[3])`
 array-read-chosen-4 : tie.Need-array-read-chosen-4
 array-read-chosen-4 c = search needs
 
 chosen-requires-4 : tie.Need-chosen-requires-4
 chosen-requires-4 c κs = search needs
 
+-- `chosen(a, 4, x, registers[4])`
 array-read-chosen-5 : tie.Need-array-read-chosen-5
 array-read-chosen-5 c = search needs
 
 chosen-requires-5 : tie.Need-chosen-requires-5
 chosen-requires-5 c κs = search needs
 
+-- `chosen(a, 5, x, registers[5])`
 array-read-chosen-6 : tie.Need-array-read-chosen-6
 array-read-chosen-6 c = search needs
 
 chosen-requires-6 : tie.Need-chosen-requires-6
 chosen-requires-6 c κs = search needs
 
+-- `chosen(a, 6, x, registers[6])`
 array-read-chosen-7 : tie.Need-array-read-chosen-7
 array-read-chosen-7 c = search needs
 
 chosen-requires-7 : tie.Need-chosen-requires-7
 chosen-requires-7 c κs = search needs
 
+-- `chosen(a, 7, x, registers[7])`
 array-read-chosen-8 : tie.Need-array-read-chosen-8
 array-read-chosen-8 c = search needs
 
@@ -76,8 +64,8 @@ chosen-requires-8 : tie.Need-chosen-requires-8
 chosen-requires-8 c κs = search needs
 
 -- the array has eight
-eight : (c : tie.Start) → length (c .args .t1) ≡ 8
-eight c = search needs
+eight-registers : (c : tie.Start) → length (c .args .t1) ≡ registerCount
+eight-registers c = search needs
 
 returns : tie.Need-returns
 unfolding listed
@@ -93,7 +81,7 @@ returns c =
       c .before .before .before .before .before .before .chosen2 .ensures,
       c .before .before .before .before .before .before .before .chosen .ensures,
     )
-    (rw (eight b) at (listed-set (b .args .t1) (b .args .a) (b .args .x)))
+    (rw (eight-registers b) at (listed-set (b .args .t1) (b .args .a) (b .args .x) 0))
 
 pub with-register-spec : {M : Type 1} → statement M
 with-register-spec =

@@ -4,21 +4,25 @@ use Rattle.printout.proofs.Stored.{words-more, words-last}
 use Rattle.printout.proofs.line.instruction_fields.Statement.{statement}
 use Rattle.printout.proofs.line.instruction_fields.Tie as tie
 
+-- `let next = raw_at(out, 0, file, at, 1, b' ')`
 raw-at-requires : tie.Need-raw-at-requires
 raw-at-requires c κs = omega arith
 
+-- `let next = raw_at(out, next, file, at + 1, 1, b' ')`
 add-raw-at : tie.Need-add-raw-at
 add-raw-at c = omega arith
 
 raw-at-requires-2 : tie.Need-raw-at-requires-2
 raw-at-requires-2 c κs = omega arith
 
+-- `let next = raw_at(out, next, file, at + 2, 1, b' ')`
 add-raw-at-2 : tie.Need-add-raw-at-2
 add-raw-at-2 c = omega arith
 
 raw-at-requires-3 : tie.Need-raw-at-requires-3
 raw-at-requires-3 c κs = omega arith
 
+-- `raw_at(out, next, file, at + 3, 1, b' ')`
 add-raw-at-3 : tie.Need-add-raw-at-3
 add-raw-at-3 c = omega arith
 

@@ -2,29 +2,34 @@
 use mathlib.Core.Path.{refl}
 use native.Mathlib.Omega.{arith}
 use Rattle.printout.specs.Text.{ascii}
-use Rattle.printout.specs.Item.{threadLine}
-use Rattle.printout.proofs.Stored.{line-more, line-last, printed}
+use Rattle.printout.specs.Internal.Item.{threadLine}
+use Rattle.printout.proofs.Stored.{line-more, line-last, line-written}
 use Rattle.printout.proofs.line.thread_line.Statement.{statement}
 use Rattle.printout.proofs.line.thread_line.Tie as tie
 
+-- `let next = raw_at(out, 0, file, at, 2, b' ')`
 raw-at-requires : tie.Need-raw-at-requires
 raw-at-requires c κs = omega arith
 
+-- `let next = copy_at(out, next, b"thread", b' ')`
 slice-aggregate-copy-at : tie.Need-slice-aggregate-copy-at
 slice-aggregate-copy-at c = refl
 
 copy-at-requires : tie.Need-copy-at-requires
 copy-at-requires c κs = omega arith
 
+-- `let next = short_at(out, next, t, b' ')`
 short-at-requires : tie.Need-short-at-requires
 short-at-requires c κs = omega arith
 
+-- `let next = copy_at(out, next, b"code", b' ')`
 slice-aggregate-copy-at-2 : tie.Need-slice-aggregate-copy-at-2
 slice-aggregate-copy-at-2 c = refl
 
 copy-at-requires-2 : tie.Need-copy-at-requires-2
 copy-at-requires-2 c κs = omega arith
 
+-- `short_at(out, next, count, b'\n')`
 short-at-requires-2 : tie.Need-short-at-requires-2
 short-at-requires-2 c κs = omega arith
 
@@ -40,7 +45,7 @@ returns c =
     let second = third .before .before .before .before in
     let first = second .before .before .before .before .before in
     let start = first .before .before .before .before in
-    printed (omega (arith, first .raw-at .ensures .1, second .copy-at .ensures .1, third .short-at .ensures .1, fourth .copy-at2 .ensures .1, fifth .short-at2 .ensures .1)) (start .pre .3) (line-more (first .raw-at .ensures .0)
+    line-written (omega (arith, first .raw-at .ensures .1, second .copy-at .ensures .1, third .short-at .ensures .1, fourth .copy-at2 .ensures .1, fifth .short-at2 .ensures .1)) (start .pre .3) (line-more (first .raw-at .ensures .0)
     (line-more (second .copy-at .ensures .0)
     (line-more (third .short-at .ensures .0)
     (line-more (fourth .copy-at2 .ensures .0)

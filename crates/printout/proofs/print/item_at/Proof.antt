@@ -5,10 +5,10 @@ use Prim.Native.Nat.{ℕ, suc, _+_, _-_, _*_, _≤_, _<_}
 use native.Mathlib.Nat.{sub-zero}
 use native.Mathlib.Omega.{arith}
 use lib.ListN.{getD}
-use Rattle.program.specs.Sound.{countAt}
-use Rattle.printout.specs.Item.{Walk, linesFrom, itemLines, itemLine}
+use Rattle.program.specs.Internal.Sound.{countAt}
+use Rattle.printout.specs.Internal.Item.{Walk, linesFrom, itemLines, itemLine}
 use Rattle.printout.specs.declared.print.Item.the-variants.{Code}
-use Rattle.printout.proofs.Parts.{instructions-few, walk-start, walk-here, walk-room, walk-next, walk-end, lines-here, lines-code, lines-next, lines-done, lines-start}
+use Rattle.printout.proofs.Parts.{file-instructions-few, walk-start, walk-section, walk-report-inside, walk-next, walk-end, lines-thread, lines-code, lines-next, lines-done, lines-start}
 use Rattle.printout.proofs.print.item_at.Statement.{statement}
 use Rattle.printout.proofs.print.item_at.Tie as tie
 
@@ -21,6 +21,7 @@ Inv-loop file l i t₀ at₀ from₀ t at from =
 abbrev μ-loop : tie.MeasureT-loop
 μ-loop file l i t₀ at₀ from₀ t at from = l .threads - t
 
+-- `let mut at = RECORDS_START + VARIABLE_SIZE * l.variables`
 mul-at : tie.Need-mul-at Inv-loop μ-loop
 mul-at c = omega (arith, c .before .before .pre .0 .variables)
 
@@ -32,6 +33,7 @@ loop-holds c =
     let a = c .before .before .args in
     (walk-start (a .file .now) (a .l) (c .before .before .pre .0), omega arith, λ report. rw (sub-zero (a .i), lines-start (a .file .now) (a .l) report))
 
+-- `let count = code_count(file, at)`
 code-count-requires : tie.Need-code-count-requires Inv-loop μ-loop
 code-count-requires c κs =
     let l = c .before .before .loop in
@@ -39,12 +41,14 @@ code-count-requires c κs =
     let sound = c .before .before .before .before .before .pre .0 in
     let h = c .if1 .taken in
     let w = l .inv .0 in
-    let section = walk-here w h in
+    let section = walk-section w h in
     section .head
 
+-- `let passed = i - from`
 sub-passed : tie.Need-sub-passed Inv-loop μ-loop
 sub-passed c = c .before .before .before .loop .inv .1
 
+-- `return Item::Thread(t, at)`
 returns : tie.Need-returns Inv-loop μ-loop
 returns c =
     let l = c .before .before .before .before .loop in
@@ -52,18 +56,20 @@ returns c =
     let sound = c .before .before .before .before .before .before .before .pre .0 in
     let h = c .before .before .if1 .taken in
     let w = l .inv .0 in
-    let section = walk-here w h in
+    let section = walk-section w h in
     let count = c .before .code-count in (
       λ report.
-          sym (lines-here (a .file .now) (a .l) report (l .t) (l .at) (l .from) h)
+          sym (lines-thread (a .file .now) (a .l) report (l .t) (l .at) (l .from) h)
           ∙ ap (λ (n : ℕ). getD (linesFrom (a .file .now) (a .l) report (l .t) (l .at) (l .from)) n []) (sym (c .if2 .taken))
           ∙ l .inv .2 report,
       (omega (arith, sound .threads), section .head, section .few),
     )
 
+-- `let place = passed - 1`
 sub-place : tie.Need-sub-place Inv-loop μ-loop
 sub-place c = omega (arith, c .before .if2 .left)
 
+-- `return Item::Code(at + 2 + INSTRUCTION_SIZE * place, place, i - 1)`
 add-t12 : tie.Need-add-t12 Inv-loop μ-loop
 add-t12 c =
     let l = c .before .before .before .before .before .loop in
@@ -71,9 +77,9 @@ add-t12 c =
     let sound = c .before .before .before .before .before .before .before .before .pre .0 in
     let h = c .before .before .before .if1 .taken in
     let w = l .inv .0 in
-    let section = walk-here w h in
+    let section = walk-section w h in
     let count = c .before .before .code-count in
-    omega (arith, instructions-few sound, section .head, section .whole, count .ensures, walk-room w h, sound .threads)
+    omega (arith, file-instructions-few sound, section .head, section .whole, count .ensures, walk-report-inside w h, sound .threads)
 
 mul-t13 : tie.Need-mul-t13 Inv-loop μ-loop
 mul-t13 c =
@@ -82,9 +88,9 @@ mul-t13 c =
     let sound = c .before .before .before .before .before .before .before .before .pre .0 in
     let h = c .before .before .before .if1 .taken in
     let w = l .inv .0 in
-    let section = walk-here w h in
+    let section = walk-section w h in
     let count = c .before .before .code-count in
-    omega (arith, instructions-few sound, section .head, section .whole, count .ensures, walk-room w h, sound .threads)
+    omega (arith, file-instructions-few sound, section .head, section .whole, count .ensures, walk-report-inside w h, sound .threads)
 
 add-t14 : tie.Need-add-t14 Inv-loop μ-loop
 add-t14 c =
@@ -93,9 +99,9 @@ add-t14 c =
     let sound = c .before .before .before .before .before .before .before .before .pre .0 in
     let h = c .before .before .before .if1 .taken in
     let w = l .inv .0 in
-    let section = walk-here w h in
+    let section = walk-section w h in
     let count = c .before .before .code-count in
-    omega (arith, instructions-few sound, section .head, section .whole, count .ensures, walk-room w h, sound .threads)
+    omega (arith, file-instructions-few sound, section .head, section .whole, count .ensures, walk-report-inside w h, sound .threads)
 
 sub-t15 : tie.Need-sub-t15 Inv-loop μ-loop
 sub-t15 c = omega (arith, c .before .if2 .left)
@@ -107,7 +113,7 @@ returns-2 c =
     let sound = c .before .before .before .before .before .before .before .before .pre .0 in
     let h = c .before .before .before .if1 .taken in
     let w = l .inv .0 in
-    let section = walk-here w h in
+    let section = walk-section w h in
     let count = c .before .before .code-count in
     let place : ℕ = a .i - l .from - 1 in
     let b : place < countAt (a .file .now) (l .at) = omega (arith, c .if3 .taken, c .before .if2 .left, count .ensures) in
@@ -118,9 +124,10 @@ returns-2 c =
           ∙ sym (lines-code (a .file .now) (a .l) report (l .t) (l .at) (l .from) h place b)
           ∙ ap (λ (n : ℕ). getD (linesFrom (a .file .now) (a .l) report (l .t) (l .at) (l .from)) n []) (sym e)
           ∙ l .inv .2 report,
-      (omega (arith, section .whole, b), omega (arith, section .few, b), omega (arith, walk-room w h, r, b), section .valid place b),
+      (omega (arith, section .whole, b), omega (arith, section .few, b), omega (arith, walk-report-inside w h, r, b), section .valid place b),
     )
 
+-- `from = from + count + 1`
 add-from : tie.Need-add-from Inv-loop μ-loop
 add-from c =
     let l = c .before .before .before .before .before .loop in
@@ -128,9 +135,9 @@ add-from c =
     let sound = c .before .before .before .before .before .before .before .before .pre .0 in
     let h = c .before .before .before .if1 .taken in
     let w = l .inv .0 in
-    let section = walk-here w h in
+    let section = walk-section w h in
     let count = c .before .before .code-count in
-    omega (arith, instructions-few sound, section .head, section .whole, count .ensures, walk-room w h, sound .threads)
+    omega (arith, file-instructions-few sound, section .head, section .whole, count .ensures, walk-report-inside w h, sound .threads)
 
 add-from-2 : tie.Need-add-from-2 Inv-loop μ-loop
 add-from-2 c =
@@ -139,10 +146,11 @@ add-from-2 c =
     let sound = c .before .before .before .before .before .before .before .before .pre .0 in
     let h = c .before .before .before .if1 .taken in
     let w = l .inv .0 in
-    let section = walk-here w h in
+    let section = walk-section w h in
     let count = c .before .before .code-count in
-    omega (arith, instructions-few sound, section .head, section .whole, count .ensures, walk-room w h, sound .threads)
+    omega (arith, file-instructions-few sound, section .head, section .whole, count .ensures, walk-report-inside w h, sound .threads)
 
+-- `at = at + 2 + INSTRUCTION_SIZE * count`
 add-at-2 : tie.Need-add-at-2 Inv-loop μ-loop
 add-at-2 c =
     let l = c .before .before .before .before .before .loop in
@@ -150,9 +158,9 @@ add-at-2 c =
     let sound = c .before .before .before .before .before .before .before .before .pre .0 in
     let h = c .before .before .before .if1 .taken in
     let w = l .inv .0 in
-    let section = walk-here w h in
+    let section = walk-section w h in
     let count = c .before .before .code-count in
-    omega (arith, instructions-few sound, section .head, section .whole, count .ensures, walk-room w h, sound .threads)
+    omega (arith, file-instructions-few sound, section .head, section .whole, count .ensures, walk-report-inside w h, sound .threads)
 
 mul-at-2 : tie.Need-mul-at-2 Inv-loop μ-loop
 mul-at-2 c =
@@ -161,9 +169,9 @@ mul-at-2 c =
     let sound = c .before .before .before .before .before .before .before .before .pre .0 in
     let h = c .before .before .before .if1 .taken in
     let w = l .inv .0 in
-    let section = walk-here w h in
+    let section = walk-section w h in
     let count = c .before .before .code-count in
-    omega (arith, instructions-few sound, section .head, section .whole, count .ensures, walk-room w h, sound .threads)
+    omega (arith, file-instructions-few sound, section .head, section .whole, count .ensures, walk-report-inside w h, sound .threads)
 
 add-at-3 : tie.Need-add-at-3 Inv-loop μ-loop
 add-at-3 c =
@@ -172,10 +180,11 @@ add-at-3 c =
     let sound = c .before .before .before .before .before .before .before .before .pre .0 in
     let h = c .before .before .before .if1 .taken in
     let w = l .inv .0 in
-    let section = walk-here w h in
+    let section = walk-section w h in
     let count = c .before .before .code-count in
-    omega (arith, instructions-few sound, section .head, section .whole, count .ensures, walk-room w h, sound .threads)
+    omega (arith, file-instructions-few sound, section .head, section .whole, count .ensures, walk-report-inside w h, sound .threads)
 
+-- `t += 1`
 add-t : tie.Need-add-t Inv-loop μ-loop
 add-t c =
     let l = c .before .before .before .before .before .loop in
@@ -183,7 +192,7 @@ add-t c =
     let sound = c .before .before .before .before .before .before .before .before .pre .0 in
     let h = c .before .before .before .if1 .taken in
     let w = l .inv .0 in
-    let section = walk-here w h in
+    let section = walk-section w h in
     let count = c .before .before .code-count in
     omega (arith, h, sound .threads)
 
@@ -197,7 +206,7 @@ loop-again c =
     let sound = c .before .before .before .before .before .before .before .before .pre .0 in
     let h = c .before .before .before .if1 .taken in
     let w = l .inv .0 in
-    let section = walk-here w h in
+    let section = walk-section w h in
     let count = c .before .before .code-count in
     let n : ℕ = countAt (a .file .now) (l .at) in
     let j : ℕ = a .i - (l .from + n + 1) in
@@ -212,6 +221,7 @@ loop-again c =
           ∙ l .inv .2 report,
     )
 
+-- `Item::Whole(i - from)`
 sub-t10 : tie.Need-sub-t10 Inv-loop μ-loop
 sub-t10 c = c .before .before .loop .inv .1
 

@@ -4,7 +4,7 @@ use Prim.Native.Nat.{_+_, _≤_, _-_}
 use native.Mathlib.Omega.{arith}
 use lib.ListN.{length, take, length-set}
 use lib.Seq.{take-all}
-use Rattle.printout.specs.Writing.{Laid}
+use Rattle.printout.specs.Internal.Writing.{Laid}
 use Rattle.printout.proofs.Stored.{laid-none, laid-same, laid-copied, word-ended}
 use Rattle.printout.proofs.text.copy_at.Statement.{statement}
 use Rattle.printout.proofs.text.copy_at.Tie as tie
@@ -18,6 +18,7 @@ abbrev μ-loop : tie.MeasureT-loop
 loop-holds : tie.Need-loop-holds Inv-loop μ-loop
 loop-holds c = (omega arith, refl, laid-same (laid-none (c .args .at) (c .args .out .now)) refl (omega arith))
 
+-- `out[at + i] = word[i]`
 shared-slice-read-out : tie.Need-shared-slice-read-out Inv-loop μ-loop
 shared-slice-read-out c = omega arith
 
@@ -27,6 +28,7 @@ add-out c = omega arith
 slice-write-out : tie.Need-slice-write-out Inv-loop μ-loop
 slice-write-out c = omega arith
 
+-- `i += 1`
 add-i : tie.Need-add-i Inv-loop μ-loop
 add-i c = omega arith
 
@@ -39,12 +41,14 @@ loop-again c =
     let word = c .before .before .before .args .word .now in
     (omega arith, simp length-set (omega arith), laid-copied word (l .i) (c .before .loop-test .taken) (l .inv .2))
 
+-- `out[at + i] = end`
 add-out-2 : tie.Need-add-out-2 Inv-loop μ-loop
 add-out-2 c = omega arith
 
 slice-write-out-2 : tie.Need-slice-write-out-2 Inv-loop μ-loop
 slice-write-out-2 c = omega arith
 
+-- `at + i + 1`
 add-result : tie.Need-add-result Inv-loop μ-loop
 add-result c = omega arith
 

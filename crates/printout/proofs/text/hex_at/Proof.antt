@@ -7,12 +7,14 @@ use Rattle.printout.proofs.Stored.{laid-byte, laid-same, laid-then}
 use Rattle.printout.proofs.text.hex_at.Statement.{statement}
 use Rattle.printout.proofs.text.hex_at.Tie as tie
 
+-- `out[at] = hex_digit(b / 16)`
 hex-digit-requires : tie.Need-hex-digit-requires
 hex-digit-requires c κs = omega arith
 
 slice-write-out : tie.Need-slice-write-out
 slice-write-out c = omega arith
 
+-- `out[at + 1] = hex_digit(b % 16)`
 hex-digit-requires-2 : tie.Need-hex-digit-requires-2
 hex-digit-requires-2 c κs = omega arith
 
@@ -22,6 +24,7 @@ add-out c = omega arith
 slice-write-out-2 : tie.Need-slice-write-out-2
 slice-write-out-2 c = simp length-set (omega arith)
 
+-- `at + 2`
 add-result : tie.Need-add-result
 add-result c = omega arith
 

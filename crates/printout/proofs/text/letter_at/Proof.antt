@@ -11,6 +11,7 @@ use borrow.Author.Needs.{needs}
 use Rattle.printout.proofs.text.letter_at.Statement.{statement}
 use Rattle.printout.proofs.text.letter_at.Tie as tie
 
+-- `return pick_at(out, at, b"-BLRAT", byte as usize, end)`
 slice-aggregate-pick-at : tie.Need-slice-aggregate-pick-at
 slice-aggregate-pick-at c = refl
 
@@ -20,19 +21,23 @@ pick-at-requires c κs = omega arith
 same-length : tie.Need-same-length
 same-length c = search needs
 
+-- `return pick_at(out, at, b"-BLRAT", byte as usize, end)`
 returns : tie.Need-returns
 unfolding letter ascii
 returns c = c .before .before .pick-at .ensures
 
+-- `out[at] = end`
 slice-write-out : tie.Need-slice-write-out
 slice-write-out c = search needs
 
+-- `at + 1`
 add-result : tie.Need-add-result
 add-result c = search needs
 
 same-length-2 : tie.Need-same-length-2
 same-length-2 c = search needs
 
+-- `at + 1`
 returns-2 : tie.Need-returns-2
 unfolding letter ascii
 returns-2 c =

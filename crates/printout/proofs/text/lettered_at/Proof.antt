@@ -2,15 +2,17 @@
 use Prim.Native.Nat.{_<_, _^_}
 use native.Mathlib.Omega.{arith}
 use lib.ListN.{length-set}
-use Rattle.printout.specs.Writing.{lettered}
+use Rattle.printout.specs.Internal.Writing.{lettered}
 use Rattle.printout.proofs.Stored.{word-first}
 use Rattle.printout.proofs.Digits.{decimal-length}
 use Rattle.printout.proofs.text.lettered_at.Statement.{statement}
 use Rattle.printout.proofs.text.lettered_at.Tie as tie
 
+-- `out[at] = letter`
 slice-write-out : tie.Need-slice-write-out
 slice-write-out c = omega arith
 
+-- `number_at(out, at + 1, n as usize, end)`
 add-number-at : tie.Need-add-number-at
 add-number-at c = omega arith
 

@@ -7,12 +7,15 @@ use Rattle.printout.proofs.Stored.{word-ended}
 use Rattle.printout.proofs.text.number_at.Statement.{statement}
 use Rattle.printout.proofs.text.number_at.Tie as tie
 
+-- `let next = digits_at(out, at, n)`
 digits-at-requires : tie.Need-digits-at-requires
 digits-at-requires c κs = omega arith
 
+-- `out[next] = end`
 slice-write-out : tie.Need-slice-write-out
 slice-write-out c = omega arith
 
+-- `next + 1`
 add-result : tie.Need-add-result
 add-result c = omega arith
 

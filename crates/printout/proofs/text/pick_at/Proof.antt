@@ -9,18 +9,22 @@ use borrow.Author.Needs.{needs}
 use Rattle.printout.proofs.text.pick_at.Statement.{statement}
 use Rattle.printout.proofs.text.pick_at.Tie as tie
 
+-- `out[at] = text[i]`
 shared-slice-read-out : tie.Need-shared-slice-read-out
 shared-slice-read-out c = search needs
 
 slice-write-out : tie.Need-slice-write-out
 slice-write-out c = search needs
 
+-- `let next = at + 1`
 add-next : tie.Need-add-next
 add-next c = search needs
 
+-- `out[next] = end`
 slice-write-out-2 : tie.Need-slice-write-out-2
 slice-write-out-2 c = simp length-set (omega arith)
 
+-- `next + 1`
 add-result : tie.Need-add-result
 add-result c = search needs
 

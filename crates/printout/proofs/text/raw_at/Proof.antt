@@ -6,7 +6,7 @@ use native.Mathlib.Omega.{arith}
 use lib.ListN.{length, length-set}
 use Rattle.printout.specs.Text.{hex, hexes}
 use Rattle.printout.specs.Line.{raw}
-use Rattle.printout.specs.Writing.{Laid}
+use Rattle.printout.specs.Internal.Writing.{Laid}
 use Rattle.printout.proofs.Stored.{laid-none, laid-same, laid-then, word-ended}
 use Rattle.printout.proofs.Digits.{raw-more}
 use Rattle.printout.proofs.text.raw_at.Statement.{statement}
@@ -23,6 +23,7 @@ loop-holds : tie.Need-loop-holds Inv-loop μ-loop
 unfolding raw hexes
 loop-holds c = (omega arith, refl, omega arith, laid-none (c .before .before .args .at) (c .before .before .args .out .now))
 
+-- `next = hex_at(out, next, file[from + i])`
 add-hex-at : tie.Need-add-hex-at Inv-loop μ-loop
 add-hex-at c = omega arith
 
@@ -32,6 +33,7 @@ shared-slice-read-hex-at c = omega arith
 hex-at-requires : tie.Need-hex-at-requires Inv-loop μ-loop
 hex-at-requires c κs = omega arith
 
+-- `i += 1`
 add-i : tie.Need-add-i Inv-loop μ-loop
 add-i c = omega arith
 
@@ -47,9 +49,11 @@ loop-again c =
     let e : h .result ≡ a .at + 2 * (l .i + 1) = omega (arith, h .ensures .ends, l .inv .2) in
     (omega arith, h .kept .0 ∙ l .inv .1, e, laid-same (laid-then (l .inv .3) (h .ensures)) (sym (ap (raw (a .file .now) (a .from)) (add-one (l .i)) ∙ raw-more (a .file .now) (a .from) (l .i) (omega arith))) refl)
 
+-- `out[next] = end`
 slice-write-out : tie.Need-slice-write-out Inv-loop μ-loop
 slice-write-out c = omega arith
 
+-- `next + 1`
 add-result : tie.Need-add-result Inv-loop μ-loop
 add-result c = omega arith
 

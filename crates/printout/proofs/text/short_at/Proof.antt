@@ -5,6 +5,7 @@ use Rattle.printout.proofs.Digits.{decimal-length}
 use Rattle.printout.proofs.text.short_at.Statement.{statement}
 use Rattle.printout.proofs.text.short_at.Tie as tie
 
+-- `number_at(out, at, n, end)`
 number-at-requires : tie.Need-number-at-requires
 number-at-requires c κs =
     let n = c .before .before .args .n in

@@ -4,9 +4,11 @@ use Rattle.printout.proofs.Stored.{words-more, words-last}
 use Rattle.printout.proofs.words.name_lettered.Statement.{statement}
 use Rattle.printout.proofs.words.name_lettered.Tie as tie
 
+-- `let next = copy_at(out, at, name, b' ')`
 copy-at-requires : tie.Need-copy-at-requires
 copy-at-requires c κs = omega arith
 
+-- `lettered_at(out, next, letter, k, b' ')`
 lettered-at-requires : tie.Need-lettered-at-requires
 lettered-at-requires c κs = omega arith
 

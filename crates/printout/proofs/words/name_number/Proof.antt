@@ -4,9 +4,11 @@ use Rattle.printout.proofs.Stored.{words-more, words-last}
 use Rattle.printout.proofs.words.name_number.Statement.{statement}
 use Rattle.printout.proofs.words.name_number.Tie as tie
 
+-- `let next = copy_at(out, at, name, b' ')`
 copy-at-requires : tie.Need-copy-at-requires
 copy-at-requires c κs = omega arith
 
+-- `short_at(out, next, n as usize, b' ')`
 short-at-requires : tie.Need-short-at-requires
 short-at-requires c κs = omega arith
 

@@ -4,12 +4,15 @@ use Rattle.printout.proofs.Stored.{words-more, words-last}
 use Rattle.printout.proofs.words.name_register_lettered.Statement.{statement}
 use Rattle.printout.proofs.words.name_register_lettered.Tie as tie
 
+-- `let next = copy_at(out, at, name, b' ')`
 copy-at-requires : tie.Need-copy-at-requires
 copy-at-requires c κs = omega arith
 
+-- `let next = lettered_at(out, next, b'r', a, b' ')`
 lettered-at-requires : tie.Need-lettered-at-requires
 lettered-at-requires c κs = omega arith
 
+-- `lettered_at(out, next, letter, b, b' ')`
 lettered-at-requires-2 : tie.Need-lettered-at-requires-2
 lettered-at-requires-2 c κs = omega arith
 

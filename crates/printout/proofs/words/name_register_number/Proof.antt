@@ -4,12 +4,15 @@ use Rattle.printout.proofs.Stored.{words-more, words-last}
 use Rattle.printout.proofs.words.name_register_number.Statement.{statement}
 use Rattle.printout.proofs.words.name_register_number.Tie as tie
 
+-- `let next = copy_at(out, at, name, b' ')`
 copy-at-requires : tie.Need-copy-at-requires
 copy-at-requires c κs = omega arith
 
+-- `let next = lettered_at(out, next, b'r', a, b' ')`
 lettered-at-requires : tie.Need-lettered-at-requires
 lettered-at-requires c κs = omega arith
 
+-- `short_at(out, next, n as usize, b' ')`
 short-at-requires : tie.Need-short-at-requires
 short-at-requires c κs = omega arith
 

@@ -4,15 +4,19 @@ use Rattle.printout.proofs.Stored.{words-more, words-last}
 use Rattle.printout.proofs.words.name_registers.Statement.{statement}
 use Rattle.printout.proofs.words.name_registers.Tie as tie
 
+-- `let next = copy_at(out, at, name, b' ')`
 copy-at-requires : tie.Need-copy-at-requires
 copy-at-requires c κs = omega arith
 
+-- `let next = lettered_at(out, next, b'r', a, b' ')`
 lettered-at-requires : tie.Need-lettered-at-requires
 lettered-at-requires c κs = omega arith
 
+-- `let next = lettered_at(out, next, b'r', b, b' ')`
 lettered-at-requires-2 : tie.Need-lettered-at-requires-2
 lettered-at-requires-2 c κs = omega arith
 
+-- `lettered_at(out, next, b'r', c, b' ')`
 lettered-at-requires-3 : tie.Need-lettered-at-requires-3
 lettered-at-requires-3 c κs = omega arith
 

@@ -9,9 +9,11 @@ use Rattle.program.specs.Field.{pairField, present}
 use Rattle.program.proofs.cursor.pair_field.Statement.{statement}
 use Rattle.program.proofs.cursor.pair_field.Tie as tie
 
+-- `if has_bytes(s, at, 2)`
 has-bytes-requires : tie.Need-has-bytes-requires
 has-bytes-requires c κs = search needs
 
+-- `return Field::Value(pair_at(s, at), Cursor { at: at + 2 })`
 pair-at-requires : tie.Need-pair-at-requires
 pair-at-requires c κs = omega (arith, leb-true (c .before .before .before .args .c .at + 2) (length (c .before .before .before .args .s .now)) (sym (c .before .has-bytes .ensures) ∙ c .if1 .taken))
 
@@ -22,6 +24,7 @@ returns : tie.Need-returns
 unfolding pairField present
 returns c = rw (← c .before .before .has-bytes .ensures, c .before .if1 .taken, ← c .pair-at .ensures .0)
 
+-- `Field::Refused(Refusal::Missing(s.len()))`
 returns-2 : tie.Need-returns-2
 unfolding pairField present
 returns-2 c = rw (← c .before .has-bytes .ensures, c .if1 .left)

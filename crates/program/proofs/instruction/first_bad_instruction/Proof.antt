@@ -7,7 +7,7 @@ use native.Mathlib.Omega.{arith}
 use borrow.Author.Tests.{not-true, not-false}
 use Rattle.program.specs.Choice.{firstBad}
 use Rattle.program.specs.Instruction.{isValid, decodeAt}
-use Rattle.program.proofs.Search.{bad-next, bad-here, bad-done}
+use Rattle.program.proofs.Search.{firstBad-good, firstBad-bad, firstBad-end}
 use Rattle.program.proofs.instruction.first_bad_instruction.Statement.{statement}
 use Rattle.program.proofs.instruction.first_bad_instruction.Tie as tie
 
@@ -22,20 +22,24 @@ abbrev μ-loop : tie.MeasureT-loop
 loop-holds : tie.Need-loop-holds Inv-loop μ-loop
 loop-holds c = (omega arith, refl)
 
+-- `if !is_valid_at(s, at, locks, variables)`
 is-valid-at-requires : tie.Need-is-valid-at-requires Inv-loop μ-loop
 is-valid-at-requires c κs = omega arith
 
+-- `return Found::At(at)`
 returns : tie.Need-returns Inv-loop μ-loop
 returns c =
     let a = c .before .before .before .before .before .args in
     let l = c .before .before .before .loop in
     let good : ℕ → Bool = λ p. isValid (decodeAt (a .locks) (a .variables) (a .s .now) p) in
     let bad : good (l .at) ≡ false = sym (c .before .is-valid-at .ensures) ∙ not-true (c .before .is-valid-at .result) (c .if1 .taken) in
-    sym (bad-here good 4 (l .left) (l .at) (c .before .before .loop-test .taken) bad) ∙ l .inv .1
+    sym (firstBad-bad good 4 (l .left) (l .at) (c .before .before .loop-test .taken) bad) ∙ l .inv .1
 
+-- `at += INSTRUCTION_SIZE`
 add-at : tie.Need-add-at Inv-loop μ-loop
 add-at c = omega arith
 
+-- `left -= 1`
 sub-left : tie.Need-sub-left Inv-loop μ-loop
 sub-left c = omega arith
 
@@ -48,13 +52,14 @@ loop-again c =
     let l = c .before .before .before .loop in
     let good : ℕ → Bool = λ p. isValid (decodeAt (a .locks) (a .variables) (a .s .now) p) in
     let fine : good (l .at) ≡ true = sym (c .before .is-valid-at .ensures) ∙ not-false (c .before .is-valid-at .result) (c .if1 .left) in
-    (omega arith, sym (bad-next good 4 (l .left) (l .at) (c .before .before .loop-test .taken) fine) ∙ l .inv .1)
+    (omega arith, sym (firstBad-good good 4 (l .left) (l .at) (c .before .before .loop-test .taken) fine) ∙ l .inv .1)
 
+-- `Found::Nowhere`
 returns-2 : tie.Need-returns-2 Inv-loop μ-loop
 returns-2 c =
     let a = c .before .before .before .args in
     let l = c .before .loop in
-    sym (bad-done (λ p. isValid (decodeAt (a .locks) (a .variables) (a .s .now) p)) 4 (l .left) (l .at) (c .loop-test .left)) ∙ l .inv .1
+    sym (firstBad-end (λ p. isValid (decodeAt (a .locks) (a .variables) (a .s .now) p)) 4 (l .left) (l .at) (c .loop-test .left)) ∙ l .inv .1
 
 pub first-bad-instruction-spec : {M : Type 1} → statement M
 first-bad-instruction-spec =

@@ -4,6 +4,7 @@ use Rattle.program.specs.Instruction.{decodeAt}
 use Rattle.program.proofs.instruction.is_valid_at.Statement.{statement}
 use Rattle.program.proofs.instruction.is_valid_at.Tie as tie
 
+-- `is_valid(locks, variables, s[at], s[at + 1], s[at + 2], s[at + 3])`
 shared-slice-read-is-valid : tie.Need-shared-slice-read-is-valid
 shared-slice-read-is-valid c = search needs
 

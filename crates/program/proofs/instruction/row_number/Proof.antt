@@ -1,14 +1,16 @@
 -- `row_number` meets its contract. Assumes nothing.
 use borrow.Author.Needs.{needs}
 use borrow.Author.Tests.{lt-ltb, le-ltb}
-use Rattle.program.specs.Row.{rowNumber}
+use Rattle.program.specs.Internal.RowNumber.{rowNumber}
 use Rattle.program.proofs.instruction.row_number.Statement.{statement}
 use Rattle.program.proofs.instruction.row_number.Tie as tie
 
+-- `return op`
 returns : tie.Need-returns
 unfolding rowNumber
 returns c = rw (lt-ltb _ _ (c .if1 .taken))
 
+-- `return op - 10`
 sub-result : tie.Need-sub-result
 sub-result c = search needs
 
@@ -16,6 +18,7 @@ returns-2 : tie.Need-returns-2
 unfolding rowNumber
 returns-2 c = rw (le-ltb _ _ (c .before .if1 .left), lt-ltb _ _ (c .if2 .taken))
 
+-- `return op - 24`
 sub-result-2 : tie.Need-sub-result-2
 sub-result-2 c = search needs
 
@@ -23,6 +26,7 @@ returns-3 : tie.Need-returns-3
 unfolding rowNumber
 returns-3 c = rw (le-ltb _ _ (c .before .before .if1 .left), le-ltb _ _ (c .before .if2 .left), lt-ltb _ _ (c .if3 .taken))
 
+-- `op - 38`
 sub-result-3 : tie.Need-sub-result-3
 sub-result-3 c = search needs
 

@@ -4,6 +4,7 @@ use Rattle.program.specs.Instruction.{decodeAt}
 use Rattle.program.proofs.instruction.valid_instruction_at.Statement.{statement}
 use Rattle.program.proofs.instruction.valid_instruction_at.Tie as tie
 
+-- `valid_instruction(s[at], s[at + 1], s[at + 2], s[at + 3])`
 shared-slice-read-valid-instruction : tie.Need-shared-slice-read-valid-instruction
 shared-slice-read-valid-instruction c = search needs
 

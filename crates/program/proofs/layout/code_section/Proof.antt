@@ -5,28 +5,33 @@ use mathlib.Core.List.{[]}
 use lib.ListN.{length}
 use native.Mathlib.Omega.{arith}
 use borrow.Author.Needs.{needs}
+use Rattle.program.specs.Field.{fieldAnswer}
 use Rattle.program.specs.Instruction.{isValid, decodeAt}
 use Rattle.program.specs.Layout.{codeSection, instructionsAt, offsetFrom}
+use Rattle.program.specs.Limits.{instructionSize, codeSectionLimit}
 use Rattle.program.specs.Nesting.{firstBroken}
 use Rattle.program.specs.declared.cursor.Cursor.{Cursor}
-use Rattle.program.proofs.Answers.{section-value}
-use Rattle.program.proofs.Search.{bad-none}
+use Rattle.program.proofs.ReadBack.{section-value}
+use Rattle.program.proofs.Search.{firstBad-nowhere}
 use Rattle.program.proofs.layout.code_section.Statement.{statement}
 use Rattle.program.proofs.layout.code_section.Tie as tie
 
 -- the records are inside the file
-fits : (u : tie.After-f) → u .f .given .0 .1 .0 .at + 4 * u .f .given .0 .0 ≤ length (u .before .before .before .before .args .s .now)
-fits u =
+records-inside : (u : tie.After-f) → u .f .given .0 .1 .0 .at + 4 * u .f .given .0 .0 ≤ length (u .before .before .before .before .args .s .now)
+records-inside u =
     let a = u .before .before .before .before .args in
-    let h = section-value 4 4096 (a .s .now) (a .c) (u .f .given .0 .0) (u .f .given .0 .1 .0) (sym (u .before .before .section .ensures) ∙ u .f .given .1) in
+    let h = section-value instructionSize codeSectionLimit (a .s .now) (a .c) (u .f .given .0 .0) (u .f .given .0 .1 .0) (sym (u .before .before .section .ensures) ∙ ap fieldAnswer (u .f .given .1)) in
     omega (arith, ap (λ (x : Cursor). x .at) (h .start), h .whole)
 
+-- `let f = section(s, c, INSTRUCTION_SIZE, CODE_SECTION_LIMIT)`
 section-requires : tie.Need-section-requires
 section-requires c κs = search needs
 
+-- `let Field::Value(n, first) = f else`
 enum-known-f : tie.Need-enum-known-f
 enum-known-f c = search needs
 
+-- `return f`
 enum-told : tie.Need-enum-told
 enum-told c = search needs
 
@@ -34,12 +39,15 @@ returns : tie.Need-returns
 unfolding codeSection
 returns c = rw (← c .before .before .section .ensures, c .enum-told .given .1)
 
+-- `let bad = first_bad_instruction(s, start, n, locks, variables)`
 first-bad-instruction-requires : tie.Need-first-bad-instruction-requires
-first-bad-instruction-requires c κs = fits (c .before)
+first-bad-instruction-requires c κs = records-inside (c .before)
 
+-- `if let Found::At(d) = bad`
 enum-known-bad : tie.Need-enum-known-bad
 enum-known-bad c = search needs
 
+-- `return Field::Refused(Refusal::Instruction(d))`
 returns-2 : tie.Need-returns-2
 unfolding codeSection
 returns-2 c = rw (← c .before .before .before .before .before .before .before .section .ensures, c .before .before .before .before .before .f .given .1, ← c .before .before .before .first-bad-instruction .ensures, c .before .bad .given .1)
@@ -47,8 +55,9 @@ returns-2 c = rw (← c .before .before .before .before .before .before .before 
 enum-told-2 : tie.Need-enum-told-2
 enum-told-2 c = search needs
 
+-- `let broken = first_broken(s, start, n)`
 first-broken-requires : tie.Need-first-broken-requires
-first-broken-requires c κs = fits (c .before .before .before .before)
+first-broken-requires c κs = records-inside (c .before .before .before .before)
 
 -- where nesting is looked at each instruction is valid
 broken-there : (u : tie.After-first-broken) → u .first-broken .result
@@ -59,21 +68,24 @@ broken-there u =
     let v = u .before .before .before .before .before in
     let a = v .before .before .before .before .args in
     u .first-broken .ensures (a .locks) (a .variables)
-    (bad-none (λ p. isValid (decodeAt (a .locks) (a .variables) (a .s .now) p)) 4 (v .f .given .0 .0) (v .f .given .0 .1 .0 .at)
+    (firstBad-nowhere (λ p. isValid (decodeAt (a .locks) (a .variables) (a .s .now) p)) 4 (v .f .given .0 .0) (v .f .given .0 .1 .0 .at)
     (sym (u .before .before .before .first-bad-instruction .ensures) ∙ u .before .enum-told2 .given .1))
 
+-- `Found::At(d) => Field::Refused(Refusal::Nesting(d))`
 enum-known-broken : tie.Need-enum-known-broken
 enum-known-broken c = search needs
 
+-- `at: start + INSTRUCTION_SIZE * n`
 enum-told-3 : tie.Need-enum-told-3
 enum-told-3 c = search needs
 
 mul-t16 : tie.Need-mul-t16
-mul-t16 c = omega (arith, fits (c .before .before .before .before .before .before .before))
+mul-t16 c = omega (arith, records-inside (c .before .before .before .before .before .before .before))
 
 add-t17 : tie.Need-add-t17
-add-t17 c = omega (arith, fits (c .before .before .before .before .before .before .before))
+add-t17 c = omega (arith, records-inside (c .before .before .before .before .before .before .before))
 
+-- `Found::At(d) => Field::Refused(Refusal::Nesting(d))`
 returns-3 : tie.Need-returns-3
 unfolding codeSection
 returns-3 c =
@@ -86,6 +98,7 @@ returns-3 c =
       c .before .broken .given .1,
     )
 
+-- `Found::Nowhere => Field::Value ..`
 returns-4 : tie.Need-returns-4
 unfolding codeSection
 returns-4 c =

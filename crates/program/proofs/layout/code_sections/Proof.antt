@@ -1,46 +1,51 @@
 -- `code_sections`: what is added so far with the sections that are left equals the whole. Assumes nothing.
 use Prim.Native.Nat.{_+_, _*_, _≤_}
-use mathlib.Core.Path.{_≡_, sym, _∙_}
+use mathlib.Core.Path.{_≡_, sym, ap, _∙_}
 use native.Mathlib.Omega.{arith}
 use borrow.Author.Needs.{needs}
-use Rattle.program.specs.Field.{cursor}
+use Rattle.program.specs.Answer.{fine}
+use Rattle.program.specs.Field.{cursor, fieldAnswer}
+use Rattle.program.specs.Limits.{instructionLimit, codeSectionLimit}
+use Rattle.program.specs.Internal.Bounds.{programLimit}
 use Rattle.program.specs.Layout.{codeSection, codeSections}
-use Rattle.program.specs.declared.cursor.Field.the-variants.{Value}
-use Rattle.program.proofs.Answers.{code-value}
-use Rattle.program.proofs.Sections.{added, added-start, added-next, added-refused, added-done}
+use Rattle.program.proofs.ReadBack.{code-value}
+use Rattle.program.proofs.Sections.{added, added-nothing, added-section, added-refused, added-all}
 use Rattle.program.proofs.layout.code_sections.Statement.{statement}
 use Rattle.program.proofs.layout.code_sections.Tie as tie
 
 abbrev Inv-loop : tie.InvT-loop
 Inv-loop s n locks variables at₀ left₀ total₀ at left total =
-    (total + 1024 * left ≤ 8192)
+    (total + instructionLimit * left ≤ programLimit)
     × (added total (codeSections locks variables s left (cursor at)) ≡ codeSections locks variables s n (cursor at₀))
 
 abbrev μ-loop : tie.MeasureT-loop
 μ-loop s n locks variables at₀ left₀ total₀ at left total = left
 
 -- the section that was read, and that it is small
-read : (u : tie.After-f Inv-loop μ-loop)
+was-read : (u : tie.After-f Inv-loop μ-loop)
     → codeSection (u .before .before .before .before .before .before .args .locks) (u .before .before .before .before .before .before .args .variables) (u .before .before .before .before .before .before .args .s .now) (cursor (u .before .before .before .before .loop .at))
-    ≡ Value (u .f .given .0 .0) (u .f .given .0 .1 .0)
-read u = sym (u .before .before .code-section .ensures) ∙ u .f .given .1
+    ≡ fine (u .f .given .0 .0, u .f .given .0 .1 .0)
+was-read u = sym (u .before .before .code-section .ensures) ∙ ap fieldAnswer (u .f .given .1)
 
-small : (u : tie.After-f Inv-loop μ-loop) → 4 * u .f .given .0 .0 ≤ 4096
-small u =
+few-bytes : (u : tie.After-f Inv-loop μ-loop) → 4 * u .f .given .0 .0 ≤ codeSectionLimit
+few-bytes u =
     let a = u .before .before .before .before .before .before .args in
-    code-value (a .locks) (a .variables) (a .s .now) (cursor (u .before .before .before .before .loop .at)) (u .f .given .0 .0) (u .f .given .0 .1 .0) (read u) .head .few
+    code-value (a .locks) (a .variables) (a .s .now) (cursor (u .before .before .before .before .loop .at)) (u .f .given .0 .0) (u .f .given .0 .1 .0) (was-read u) .head .few
 
 loop-holds : tie.Need-loop-holds Inv-loop μ-loop
 loop-holds c =
     let a = c .before .args in
-    (omega arith, added-start (codeSections (a .locks) (a .variables) (a .s .now) (a .n) (a .c)))
+    (omega arith, added-nothing (codeSections (a .locks) (a .variables) (a .s .now) (a .n) (a .c)))
 
+-- `let f = code_section(s, Cursor { at }, locks, variables)`
 code-section-requires : tie.Need-code-section-requires Inv-loop μ-loop
 code-section-requires c κs = search needs
 
+-- `let Field::Value(count, d) = f else`
 enum-known-f : tie.Need-enum-known-f Inv-loop μ-loop
 enum-known-f c = search needs
 
+-- `return f`
 enum-told : tie.Need-enum-told Inv-loop μ-loop
 enum-told c = search needs
 
@@ -48,17 +53,19 @@ returns : tie.Need-returns Inv-loop μ-loop
 returns c =
     let a = c .before .before .before .before .before .before .args in
     let l = c .before .before .before .before .loop in
-    let r = c .enum-told .given .1 in
+    let r = ap fieldAnswer (c .enum-told .given .1) in
     r
     ∙ (sym (added-refused (a .locks) (a .variables) (a .s .now) (l .total) (l .left) (cursor (l .at)) (c .enum-told .given .0 .0)
     (c .before .before .before .loop-test .taken) (sym (c .before .before .code-section .ensures) ∙ r))
     ∙ l .inv .1)
 
+-- `left -= 1`
 sub-left : tie.Need-sub-left Inv-loop μ-loop
 sub-left c = omega arith
 
+-- `total += count`
 add-total : tie.Need-add-total Inv-loop μ-loop
-add-total c = omega (arith, small (c .before))
+add-total c = omega (arith, few-bytes (c .before))
 
 loop-less : tie.Need-loop-less Inv-loop μ-loop
 loop-less c = omega arith
@@ -68,17 +75,18 @@ loop-again c =
     let a = c .before .before .before .before .before .before .before .args in
     let l = c .before .before .before .before .before .loop in
     let f = c .before .f .given in (
-      omega (arith, small (c .before)),
-      sym (added-next (a .locks) (a .variables) (a .s .now) (l .total) (l .left) (cursor (l .at)) (f .0 .0) (f .0 .1 .0)
-          (c .before .before .before .before .loop-test .taken) (read (c .before)))
+      omega (arith, few-bytes (c .before)),
+      sym (added-section (a .locks) (a .variables) (a .s .now) (l .total) (l .left) (cursor (l .at)) (f .0 .0) (f .0 .1 .0)
+          (c .before .before .before .before .loop-test .taken) (was-read (c .before)))
           ∙ l .inv .1,
     )
 
+-- `Field::Value(total, Cursor { at })`
 returns-2 : tie.Need-returns-2 Inv-loop μ-loop
 returns-2 c =
     let a = c .before .before .before .args in
     let l = c .before .loop in
-    sym (added-done (a .locks) (a .variables) (a .s .now) (l .total) (l .left) (cursor (l .at)) (c .loop-test .left)) ∙ l .inv .1
+    sym (added-all (a .locks) (a .variables) (a .s .now) (l .total) (l .left) (cursor (l .at)) (c .loop-test .left)) ∙ l .inv .1
 
 pub code-sections-spec : {M : Type 1} → statement M
 code-sections-spec =

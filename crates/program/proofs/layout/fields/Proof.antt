@@ -2,7 +2,8 @@
 use mathlib.Core.Path.{_≡_, _∙_}
 use borrow.Author.Needs.{needs}
 use borrow.Author.Tests.{eq-eqb, ne-eqb, le-leb, lt-leb}
-use Rattle.program.specs.Field.{_>>=_, byteField}
+use Rattle.program.specs.Answer.{_>>=_}
+use Rattle.program.specs.Field.{byteField}
 use Rattle.program.specs.Layout.{fields, variableSection, codeSections}
 use Rattle.program.proofs.Steps.{afterSections, afterVariables, afterThreads, afterLocks}
 use Rattle.program.proofs.layout.fields.Statement.{statement}
@@ -33,12 +34,15 @@ to-end : (u : tie.After-known-told5) → fields (u .before .before .before .befo
 to-end u =
     to-sections (u .before .before .before .before) ∙ rw (← u .before .before .before .code-sections .ensures, u .before .f5 .given .1)
 
+-- `let f = byte_field(s, Cursor { at: 0 })`
 byte-field-requires : tie.Need-byte-field-requires
 byte-field-requires c κs = search needs
 
+-- `let Field::Value(version, c1) = f else`
 enum-known-f : tie.Need-enum-known-f
 enum-known-f c = search needs
 
+-- `return f`
 enum-told : tie.Need-enum-told
 enum-told c = search needs
 
@@ -46,40 +50,50 @@ returns : tie.Need-returns
 unfolding fields
 returns c = rw (← c .before .before .byte-field .ensures, c .enum-told .given .1)
 
+-- `return Field::Refused(Refusal::Version(0))`
 returns-2 : tie.Need-returns-2
 unfolding fields
 returns-2 c = rw (← c .before .before .before .before .byte-field .ensures, c .before .before .f .given .1, ne-eqb _ _ (c .if1 .taken))
 
+-- `let f = byte_field(s, c1)`
 byte-field-requires-2 : tie.Need-byte-field-requires-2
 byte-field-requires-2 c κs = search needs
 
+-- `let Field::Value(locks, c2) = f else`
 enum-known-f-2 : tie.Need-enum-known-f-2
 enum-known-f-2 c = search needs
 
+-- `return f`
 enum-told-2 : tie.Need-enum-told-2
 enum-told-2 c = search needs
 
 returns-3 : tie.Need-returns-3
 returns-3 c = rw (to-locks (c .before .before .before), ← c .before .before .byte-field2 .ensures, c .enum-told2 .given .1)
 
+-- `return Field::Refused(Refusal::Count(1))`
 returns-4 : tie.Need-returns-4
 returns-4 c = rw (to-locks (c .before .before .before .before .before), ← c .before .before .before .before .byte-field2 .ensures, c .before .before .f2 .given .1, lt-leb _ _ (c .if2 .taken))
 
+-- `let f = byte_field(s, c2)`
 byte-field-requires-3 : tie.Need-byte-field-requires-3
 byte-field-requires-3 c κs = search needs
 
+-- `let Field::Value(threads, c3) = f else`
 enum-known-f-3 : tie.Need-enum-known-f-3
 enum-known-f-3 c = search needs
 
+-- `return f`
 enum-told-3 : tie.Need-enum-told-3
 enum-told-3 c = search needs
 
 returns-5 : tie.Need-returns-5
 returns-5 c = rw (to-threads (c .before .before .before), ← c .before .before .byte-field3 .ensures, c .enum-told3 .given .1)
 
+-- `return Field::Refused(Refusal::Count(2))`
 returns-6 : tie.Need-returns-6
 returns-6 c = rw (to-threads (c .before .before .before .before .before), ← c .before .before .before .before .byte-field3 .ensures, c .before .before .f3 .given .1, lt-leb _ _ (c .if3 .taken))
 
+-- `return Field::Refused(Refusal::Count(2))`
 returns-7 : tie.Need-returns-7
 returns-7 c =
     rw (
@@ -90,33 +104,41 @@ returns-7 c =
       lt-leb _ _ (c .if4 .taken),
     )
 
+-- `let f = variable_section(s, c3, locks, threads)`
 variable-section-requires : tie.Need-variable-section-requires
 variable-section-requires c κs = search needs
 
+-- `let Field::Value(variables, c4) = f else`
 enum-known-f-4 : tie.Need-enum-known-f-4
 enum-known-f-4 c = search needs
 
+-- `return f`
 enum-told-4 : tie.Need-enum-told-4
 enum-told-4 c = search needs
 
 returns-8 : tie.Need-returns-8
 returns-8 c = rw (to-variables (c .before .before .before), ← c .before .before .variable-section .ensures, c .enum-told4 .given .1)
 
+-- `let f = code_sections(s, c4, threads, locks, variables)`
 code-sections-requires : tie.Need-code-sections-requires
 code-sections-requires c κs = search needs
 
+-- `let Field::Value(instructions, c5) = f else`
 enum-known-f-5 : tie.Need-enum-known-f-5
 enum-known-f-5 c = search needs
 
+-- `return f`
 enum-told-5 : tie.Need-enum-told-5
 enum-told-5 c = search needs
 
 returns-9 : tie.Need-returns-9
 returns-9 c = rw (to-sections (c .before .before .before), ← c .before .before .code-sections .ensures, c .enum-told5 .given .1)
 
+-- `return Field::Refused(Refusal::LeftOver(end))`
 returns-10 : tie.Need-returns-10
 returns-10 c = rw (to-end (c .before), ne-eqb _ _ (c .if5 .taken))
 
+-- `Field::Value(instructions, c5)`
 returns-11 : tie.Need-returns-11
 returns-11 c = rw (to-end (c .before), eq-eqb _ _ (c .if5 .left))
 

@@ -5,25 +5,30 @@ use mathlib.Core.List.{List, []}
 use lib.ListN.{length}
 use native.Mathlib.Omega.{arith}
 use borrow.Author.Needs.{needs}
-use Rattle.program.specs.Instruction.{decodeAt, instructionOf}
-use Rattle.program.specs.Layout.{AllValid, instructionsAt}
+use Rattle.program.specs.Instruction.{decodeAt, decodedInstruction}
+use Rattle.program.specs.Layout.{instructionsAt}
+use Rattle.program.specs.Internal.Sound.{AllValid}
+use Rattle.program.specs.Limits.{entryLimit}
 use Rattle.program.specs.Nesting.{firstBroken, atCodeEnd}
-use Rattle.program.specs.Stack.{entriesOf, entriesAfter, depthAfter, under, Room}
+use Rattle.program.specs.Internal.Change.{entriesOf, entriesAfter, depthAfter, under, Room}
+use Rattle.program.specs.Internal.Stack.{stackOf}
 use Rattle.program.specs.declared.found.Found.{Found}
 use Rattle.program.specs.declared.found.Found.the-variants.{At}
 use Rattle.program.specs.declared.instruction.Instruction.{Instruction}
 use Rattle.program.specs.declared.nesting.Entry.{Entry}
+use Rattle.program.specs.declared.nesting.Entry.the-variants.{Then}
 use Rattle.program.specs.declared.nesting.Change.{Change}
 use Rattle.program.specs.declared.nesting.Change.the-variants.{Keep, Push, Replace, Pop}
 use Rattle.program.specs.declared.nesting.Turn.the-variants.{Broken, Goes}
-use Rattle.program.proofs.Scan.{restFrom, broken-start, broken-end, turn-broken, turn-room, turn-goes}
-use Rattle.program.proofs.Stack.{depth-change, length-change, entries-top}
+use Rattle.program.proofs.Scan.{restFrom, rest-start, rest-end, turn-broken, turn-room, turn-goes}
+use Rattle.program.proofs.Change.{depth-change, length-change}
+use Rattle.program.proofs.Stack.{stack-top}
 use Rattle.program.proofs.nesting.first_broken.Statement.{statement}
 use Rattle.program.proofs.nesting.first_broken.Tie as tie
 
 abbrev Inv-loop : tie.InvT-loop
 Inv-loop s start n entries₀ depth₀ p₀ entries depth p =
-    (p ≤ n) × (depth ≤ 16) × (length entries ≡ 17)
+    (p ≤ n) × (depth ≤ entryLimit) × (length entries ≡ entryLimit + 1)
     × ((locks variables : ℕ) → AllValid locks variables s n start
     → restFrom locks variables s start n p (entriesOf depth entries) ≡ firstBroken 0 (instructionsAt locks variables s n start) [])
 
@@ -31,200 +36,219 @@ abbrev μ-loop : tie.MeasureT-loop
 μ-loop s start n entries₀ depth₀ p₀ entries depth p = n - p
 
 -- one turn, by what `innermost`, `form_of`, `valid_instruction_at` and `turn_at` ensure
-abbrev Place : Type 0
-Place = tie.After-turn-at Inv-loop μ-loop
+abbrev AfterTurn : Type 0
+AfterTurn = tie.After-turn-at Inv-loop μ-loop
 
 -- the instructions are valid for these numbers of locks and variables
-abbrev Valid : Place → (locks variables : ℕ) → Type 0
+abbrev Valid : AfterTurn → (locks variables : ℕ) → Type 0
 Valid u locks variables =
     let a = u .before .before .before .before .before .before .before .before .args in
     AllValid locks variables (a .s .now) (a .n) (a .start)
 
 -- the instruction there
-abbrev there : Place → (locks variables : ℕ) → Instruction
-there u locks variables =
+abbrev instructionThere : AfterTurn → (locks variables : ℕ) → Instruction
+instructionThere u locks variables =
     let a = u .before .before .before .before .before .before .before .before .args in
     let l = u .before .before .before .before .before .before .loop in
-    instructionOf (decodeAt locks variables (a .s .now) (a .start + 4 * l .p))
+    decodedInstruction (decodeAt locks variables (a .s .now) (a .start + 4 * l .p))
 
-is-there : (u : Place) (locks variables : ℕ) → Valid u locks variables → u .before .before .before .before .valid-instruction-at .result ≡ there u locks variables
-is-there u locks variables valid =
+instruction-read : (u : AfterTurn) (locks variables : ℕ) → Valid u locks variables → u .before .before .before .before .valid-instruction-at .result ≡ instructionThere u locks variables
+instruction-read u locks variables valid =
     u .before .before .before .before .valid-instruction-at .ensures locks variables (valid (u .before .before .before .before .before .before .loop .p) (u .before .before .before .before .before .loop-test .taken))
 
 -- the open entries
-abbrev open-entries : Place → ℕ → List Entry
+abbrev open-entries : AfterTurn → ℕ → List Entry
 open-entries u depth = entriesOf depth (u .before .before .before .before .before .before .loop .entries)
 
-is-top : (u : Place) → open-entries u (u .before .before .before .before .before .before .loop .depth)
+entries-under-top : (u : AfterTurn) → open-entries u (u .before .before .before .before .before .before .loop .depth)
     ≡ under (u .before .innermost .result) (open-entries u (u .before .before .before .before .before .before .loop .depth - 1))
-is-top u = u .before .innermost .ensures (u .before .before .before .before .before .before .loop .entries) refl
+entries-under-top u = u .before .innermost .ensures (u .before .before .before .before .before .before .loop .entries) refl
 
 -- the whole scan, and what is left of it after a change of the entries
-abbrev whole : Place → (locks variables : ℕ) → Found
-whole u locks variables =
+abbrev wholeScan : AfterTurn → (locks variables : ℕ) → Found
+wholeScan u locks variables =
     let a = u .before .before .before .before .before .before .before .before .args in
     firstBroken 0 (instructionsAt locks variables (a .s .now) (a .n) (a .start)) []
 
-abbrev rest : Place → Change → (locks variables : ℕ) → Found
-rest u ch locks variables =
+abbrev scanAfter : AfterTurn → Change → (locks variables : ℕ) → Found
+scanAfter u ch locks variables =
     let a = u .before .before .before .before .before .before .before .before .args in
     let l = u .before .before .before .before .before .before .loop in
     restFrom locks variables (a .s .now) (a .start) (a .n) (l .p + 1)
     (entriesOf (depthAfter ch (l .depth)) (entriesAfter ch (l .depth) (l .entries)))
 
 -- the invariant, after a change of the entries
-abbrev Turned : Place → Change → Type 0
+abbrev Turned : AfterTurn → Change → Type 0
 Turned u ch =
     let a = u .before .before .before .before .before .before .before .before .args in
     let l = u .before .before .before .before .before .before .loop in
-    (l .p + 1 ≤ a .n) × (depthAfter ch (l .depth) ≤ 16) × (length (entriesAfter ch (l .depth) (l .entries)) ≡ 17)
-    × ((locks variables : ℕ) → Valid u locks variables → rest u ch locks variables ≡ whole u locks variables)
+    (l .p + 1 ≤ a .n) × (depthAfter ch (l .depth) ≤ entryLimit) × (length (entriesAfter ch (l .depth) (l .entries)) ≡ entryLimit + 1)
+    × ((locks variables : ℕ) → Valid u locks variables → scanAfter u ch locks variables ≡ wholeScan u locks variables)
 
-ends : (u : Place) → u .turn-at .result ≡ Broken
-    → (locks variables : ℕ) → Valid u locks variables → whole u locks variables ≡ At (u .before .before .before .before .before .before .loop .p)
-ends u e locks variables valid =
+scan-broken : (u : AfterTurn) → u .turn-at .result ≡ Broken
+    → (locks variables : ℕ) → Valid u locks variables → wholeScan u locks variables ≡ At (u .before .before .before .before .before .before .loop .p)
+scan-broken u e locks variables valid =
     let a = u .before .before .before .before .before .before .before .before .args in
     let l = u .before .before .before .before .before .before .loop in
     sym (l .inv .3 locks variables valid)
-    ∙ turn-broken (l .p) (l .depth) (l .entries) (u .turn-at .result) (u .before .innermost .result) (u .before .before .before .form-of .result) (is-top u) (u .turn-at .ensures)
+    ∙ turn-broken (l .p) (l .depth) (l .entries) (u .turn-at .result) (u .before .innermost .result) (u .before .before .before .form-of .result) (entries-under-top u) (u .turn-at .ensures)
     locks variables (a .s .now) (a .start) (a .n) (u .before .before .before .before .valid-instruction-at .result)
-    (is-there u locks variables valid) (u .before .before .before .form-of .ensures) (u .before .before .before .before .before .loop-test .taken) e
+    (instruction-read u locks variables valid) (u .before .before .before .form-of .ensures) (u .before .before .before .before .before .loop-test .taken) e
 
-room : (u : Place) (ch : Change) → u .turn-at .result ≡ Goes ch → Room ch (u .before .before .before .before .before .before .loop .depth)
-room u =
+change-room : (u : AfterTurn) (ch : Change) → u .turn-at .result ≡ Goes ch → Room ch (u .before .before .before .before .before .before .loop .depth)
+change-room u =
     let l = u .before .before .before .before .before .before .loop in
-    turn-room (l .p) (l .depth) (l .entries) (u .turn-at .result) (u .before .innermost .result) (u .before .before .before .form-of .result) (is-top u) (u .turn-at .ensures)
+    turn-room (l .p) (l .depth) (l .entries) (u .turn-at .result) (u .before .innermost .result) (u .before .before .before .form-of .result) (entries-under-top u) (u .turn-at .ensures)
 
-goes : (u : Place) (ch : Change) → u .turn-at .result ≡ Goes ch
-    → (locks variables : ℕ) → Valid u locks variables → rest u ch locks variables ≡ whole u locks variables
-goes u ch e locks variables valid =
+scan-goes-on : (u : AfterTurn) (ch : Change) → u .turn-at .result ≡ Goes ch
+    → (locks variables : ℕ) → Valid u locks variables → scanAfter u ch locks variables ≡ wholeScan u locks variables
+scan-goes-on u ch e locks variables valid =
     let a = u .before .before .before .before .before .before .before .before .args in
     let l = u .before .before .before .before .before .before .loop in
-    sym (turn-goes (l .p) (l .depth) (l .entries) (u .turn-at .result) (u .before .innermost .result) (u .before .before .before .form-of .result) (is-top u) (u .turn-at .ensures)
+    sym (turn-goes (l .p) (l .depth) (l .entries) (u .turn-at .result) (u .before .innermost .result) (u .before .before .before .form-of .result) (entries-under-top u) (u .turn-at .ensures)
     locks variables (a .s .now) (a .start) (a .n) (u .before .before .before .before .valid-instruction-at .result)
-    (is-there u locks variables valid) (u .before .before .before .form-of .ensures) (u .before .before .before .before .before .loop-test .taken)
+    (instruction-read u locks variables valid) (u .before .before .before .form-of .ensures) (u .before .before .before .before .before .loop-test .taken)
     ch e (l .inv .2) (l .inv .1)) ∙ l .inv .3 locks variables valid
 
-at-end : (u : tie.After-loop Inv-loop μ-loop) (locks variables : ℕ)
+scan-at-end : (u : tie.After-loop Inv-loop μ-loop) (locks variables : ℕ)
     → AllValid locks variables (u .before .before .before .args .s .now) (u .before .before .before .args .n) (u .before .before .before .args .start)
     → firstBroken 0 (instructionsAt locks variables (u .before .before .before .args .s .now) (u .before .before .before .args .n) (u .before .before .before .args .start)) []
     ≡ atCodeEnd (u .before .loop .p) (entriesOf (u .before .loop .depth) (u .before .loop .entries))
-at-end u locks variables valid =
+scan-at-end u locks variables valid =
     let a = u .before .before .before .args in
     let l = u .before .loop in
     sym (l .inv .3 locks variables valid)
-    ∙ broken-end locks variables (a .s .now) (a .start) (a .n) (l .p) (entriesOf (l .depth) (l .entries)) (u .loop-test .left)
+    ∙ rest-end locks variables (a .s .now) (a .start) (a .n) (l .p) (entriesOf (l .depth) (l .entries)) (u .loop-test .left)
 
 loop-holds : tie.Need-loop-holds Inv-loop μ-loop
-unfolding entriesOf
+unfolding stackOf
 loop-holds c =
     let a = c .before .args in
-    (omega arith, omega arith, refl, λ locks variables valid. broken-start locks variables (a .s .now) (a .start) (a .n))
+    (omega arith, omega arith, refl, λ locks variables valid. rest-start locks variables (a .s .now) (a .start) (a .n))
 
+-- `let at = start + INSTRUCTION_SIZE * p`
 mul-at : tie.Need-mul-at Inv-loop μ-loop
 mul-at c = omega arith
 
 add-at : tie.Need-add-at Inv-loop μ-loop
 add-at c = omega arith
 
+-- `let f = form_of(valid_instruction_at(s, at))`
 valid-instruction-at-requires : tie.Need-valid-instruction-at-requires Inv-loop μ-loop
 valid-instruction-at-requires c κs = omega arith
 
 form-of-requires : tie.Need-form-of-requires Inv-loop μ-loop
 form-of-requires c κs = search needs
 
+-- `let e = entries[depth]`
 mul-e : tie.Need-mul-e Inv-loop μ-loop
 mul-e c = omega arith
 
 array-copy-out-e : tie.Need-array-copy-out-e Inv-loop μ-loop
 array-copy-out-e c = omega arith
 
+-- `let t = turn_at(p, f, innermost(e, depth), depth)`
 innermost-requires : tie.Need-innermost-requires Inv-loop μ-loop
 innermost-requires c κs = omega arith
 
 turn-at-requires : tie.Need-turn-at-requires Inv-loop μ-loop
 turn-at-requires c κs = omega arith
 
+-- `let Turn::Goes(ch) = t else`
 enum-known-t : tie.Need-enum-known-t Inv-loop μ-loop
 enum-known-t c = search needs
 
+-- `return Found::At(at)`
 enum-told : tie.Need-enum-told Inv-loop μ-loop
 enum-told c = search needs
 
 returns : tie.Need-returns Inv-loop μ-loop
-returns c locks variables valid = rw (ends (c .before .before) (c .enum-told .given .1) locks variables valid)
+returns c locks variables valid = rw (scan-broken (c .before .before) (c .enum-told .given .1) locks variables valid)
 
 -- the invariant after a change
-turned : (u : Place) (ch : Change) → u .turn-at .result ≡ Goes ch → Turned u ch
+turned : (u : AfterTurn) (ch : Change) → u .turn-at .result ≡ Goes ch → Turned u ch
 turned u ch e =
     let l = u .before .before .before .before .before .before .loop in (
       omega (arith, u .before .before .before .before .before .loop-test .taken),
-      depth-change ch (l .depth) (l .inv .1) (room u ch e),
+      depth-change ch (l .depth) (l .inv .1) (change-room u ch e),
       length-change ch (l .depth) (l .entries) ∙ l .inv .2,
-      goes u ch e,
+      scan-goes-on u ch e,
     )
 
+-- `p += 1`
 add-p : tie.Need-add-p Inv-loop μ-loop
 add-p c = omega arith
 
 enum-told-2 : tie.Need-enum-told-2 Inv-loop μ-loop
 enum-told-2 c = search needs
 
+-- back to the loop from `p += 1`
 loop-less : tie.Need-loop-less Inv-loop μ-loop
 loop-less c = omega arith
 
 loop-again : tie.Need-loop-again Inv-loop μ-loop
 loop-again c = turned (c .before .before .before .before .before) Keep (c .before .before .before .t .given .1 ∙ ap Goes (c .enum-told2 .given .1))
 
+-- `Change::Push(e) =>`
 enum-known-ch : tie.Need-enum-known-ch Inv-loop μ-loop
 enum-known-ch c = search needs
 
+-- `depth += 1`
 add-depth : tie.Need-add-depth Inv-loop μ-loop
 add-depth c = omega arith
 
+-- `entries[depth] = e`
 mul-entries : tie.Need-mul-entries Inv-loop μ-loop
-mul-entries c = omega (arith, room (c .before .before .before .before .before .before) (Push (c .before .ch .given .0 .0)) (c .before .before .before .before .t .given .1 ∙ ap Goes (c .before .ch .given .1)))
+mul-entries c = omega (arith, change-room (c .before .before .before .before .before .before) (Push (c .before .ch .given .0 .0)) (c .before .before .before .before .t .given .1 ∙ ap Goes (c .before .ch .given .1)))
 
 array-set-from-entries : tie.Need-array-set-from-entries Inv-loop μ-loop
-array-set-from-entries c = omega (arith, room (c .before .before .before .before .before .before) (Push (c .before .ch .given .0 .0)) (c .before .before .before .before .t .given .1 ∙ ap Goes (c .before .ch .given .1)))
+array-set-from-entries c = omega (arith, change-room (c .before .before .before .before .before .before) (Push (c .before .ch .given .0 .0)) (c .before .before .before .before .t .given .1 ∙ ap Goes (c .before .ch .given .1)))
 
+-- back to the loop from `entries[depth] = e`
 loop-less-2 : tie.Need-loop-less-2 Inv-loop μ-loop
 loop-less-2 c = omega arith
 
 loop-again-2 : tie.Need-loop-again-2 Inv-loop μ-loop
 loop-again-2 c = turned (c .before .before .before .before .before .before) (Push (c .before .ch .given .0 .0)) (c .before .before .before .before .t .given .1 ∙ ap Goes (c .before .ch .given .1))
 
+-- `Change::Replace(e) =>`
 enum-known-ch-2 : tie.Need-enum-known-ch-2 Inv-loop μ-loop
 enum-known-ch-2 c = search needs
 
+-- `entries[depth] = e`
 mul-entries-2 : tie.Need-mul-entries-2 Inv-loop μ-loop
 mul-entries-2 c = omega arith
 
 array-set-from-entries-2 : tie.Need-array-set-from-entries-2 Inv-loop μ-loop
 array-set-from-entries-2 c = omega arith
 
+-- back to the loop from `entries[depth] = e`
 loop-less-3 : tie.Need-loop-less-3 Inv-loop μ-loop
 loop-less-3 c = omega arith
 
 loop-again-3 : tie.Need-loop-again-3 Inv-loop μ-loop
 loop-again-3 c = turned (c .before .before .before .before .before .before) (Replace (c .before .ch2 .given .0 .0)) (c .before .before .before .before .t .given .1 ∙ ap Goes (c .before .ch2 .given .1))
 
+-- `depth -= 1`
 enum-told-3 : tie.Need-enum-told-3 Inv-loop μ-loop
 enum-told-3 c = search needs
 
 sub-depth : tie.Need-sub-depth Inv-loop μ-loop
-sub-depth c = omega (arith, room (c .before .before .before .before .before) Pop (c .before .before .before .t .given .1 ∙ ap Goes (c .enum-told3 .given .1)))
+sub-depth c = omega (arith, change-room (c .before .before .before .before .before) Pop (c .before .before .before .t .given .1 ∙ ap Goes (c .enum-told3 .given .1)))
 
+-- back to the loop from `depth -= 1`
 loop-less-4 : tie.Need-loop-less-4 Inv-loop μ-loop
 loop-less-4 c = omega arith
 
 loop-again-4 : tie.Need-loop-again-4 Inv-loop μ-loop
 loop-again-4 c = turned (c .before .before .before .before .before) Pop (c .before .before .before .t .given .1 ∙ ap Goes (c .enum-told3 .given .1))
 
+-- `return Found::Nowhere`
 returns-2 : tie.Need-returns-2 Inv-loop μ-loop
-unfolding entriesOf atCodeEnd
-returns-2 c locks variables valid = rw (at-end (c .before) locks variables valid, c .if1 .taken)
+unfolding stackOf atCodeEnd
+returns-2 c locks variables valid = rw (scan-at-end (c .before) locks variables valid, c .if1 .taken)
 
+-- `Found::At(start + INSTRUCTION_SIZE * n)`
 mul-t29 : tie.Need-mul-t29 Inv-loop μ-loop
 mul-t29 c = omega arith
 
@@ -236,7 +260,7 @@ unfolding atCodeEnd
 returns-3 c locks variables valid =
     let l = c .before .before .loop in
     let e : l .p ≡ c .before .before .before .before .args .n = omega arith in
-    rw (at-end (c .before) locks variables valid, entries-top (l .depth) (l .entries) (omega arith), e)
+    rw (scan-at-end (c .before) locks variables valid, stack-top (Then 0) (l .depth) (l .entries) (omega arith), e)
 
 pub first-broken-spec : {M : Type 1} → statement M
 first-broken-spec =

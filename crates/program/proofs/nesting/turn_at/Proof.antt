@@ -4,24 +4,29 @@ use Rattle.program.specs.Nesting.{nest}
 use Rattle.program.proofs.nesting.turn_at.Statement.{statement}
 use Rattle.program.proofs.nesting.turn_at.Tie as tie
 
+-- `Form::Plain => at_plain(p, top)`
 enum-told : tie.Need-enum-told
 enum-told c = search needs
 
 at-plain-requires : tie.Need-at-plain-requires
 at-plain-requires c κs = search needs
 
+-- `Form::If(_, d) =>`
 enum-known-f : tie.Need-enum-known-f
 enum-known-f c = search needs
 
+-- `let n = wide(d)`
 wide-requires : tie.Need-wide-requires
 wide-requires c κs = search needs
 
+-- `at_opener(p, n, Entry::Then(p + n), top, depth)`
 add-t14 : tie.Need-add-t14
 add-t14 c = search needs
 
 at-opener-requires : tie.Need-at-opener-requires
 at-opener-requires c κs = search needs
 
+-- `Form::Else(d) => at_else(p, wide(d), top)`
 enum-known-f-2 : tie.Need-enum-known-f-2
 enum-known-f-2 c = search needs
 
@@ -31,18 +36,22 @@ wide-requires-2 c κs = search needs
 at-else-requires : tie.Need-at-else-requires
 at-else-requires c κs = search needs
 
+-- `Form::While(_, d) =>`
 enum-known-f-3 : tie.Need-enum-known-f-3
 enum-known-f-3 c = search needs
 
+-- `let n = wide(d)`
 wide-requires-3 : tie.Need-wide-requires-3
 wide-requires-3 c κs = search needs
 
+-- `at_opener(p, n, Entry::Loop(p + n, n), top, depth)`
 add-t17 : tie.Need-add-t17
 add-t17 c = search needs
 
 at-opener-requires-2 : tie.Need-at-opener-requires-2
 at-opener-requires-2 c κs = search needs
 
+-- `Form::Again(d) => at_again(p, wide(d), top)`
 enum-known-f-4 : tie.Need-enum-known-f-4
 enum-known-f-4 c = search needs
 
@@ -52,48 +61,59 @@ wide-requires-4 c κs = search needs
 at-again-requires : tie.Need-at-again-requires
 at-again-requires c κs = search needs
 
+-- `Form::Atomic(d) =>`
 enum-known-f-5 : tie.Need-enum-known-f-5
 enum-known-f-5 c = search needs
 
+-- `let n = wide(d)`
 wide-requires-5 : tie.Need-wide-requires-5
 wide-requires-5 c κs = search needs
 
+-- `at_opener(p, n, Entry::Block(p + n), top, depth)`
 add-t20 : tie.Need-add-t20
 add-t20 c = search needs
 
 at-opener-requires-3 : tie.Need-at-opener-requires-3
 at-opener-requires-3 c κs = search needs
 
+-- `Form::End => at_end(p, top)`
 enum-told-2 : tie.Need-enum-told-2
 enum-told-2 c = search needs
 
 at-end-requires : tie.Need-at-end-requires
 at-end-requires c κs = search needs
 
+-- `Form::Plain => at_plain(p, top)`
 returns : tie.Need-returns
 unfolding nest
 returns c = λ below d. rw (c .before .enum-told .given .1) (c .at-plain .ensures below)
 
+-- `at_opener(p, n, Entry::Then(p + n), top, depth)`
 returns-2 : tie.Need-returns-2
 unfolding nest
 returns-2 c = λ below d. rw (c .before .before .before .f .given .1, ← c .before .wide .ensures .0) (c .at-opener .ensures below d)
 
+-- `Form::Else(d) => at_else(p, wide(d), top)`
 returns-3 : tie.Need-returns-3
 unfolding nest
 returns-3 c = λ below d. rw (c .before .before .before .f2 .given .1, ← c .before .wide2 .ensures .0) (c .at-else .ensures below)
 
+-- `at_opener(p, n, Entry::Loop(p + n, n), top, depth)`
 returns-4 : tie.Need-returns-4
 unfolding nest
 returns-4 c = λ below d. rw (c .before .before .before .f3 .given .1, ← c .before .wide3 .ensures .0) (c .at-opener2 .ensures below d)
 
+-- `Form::Again(d) => at_again(p, wide(d), top)`
 returns-5 : tie.Need-returns-5
 unfolding nest
 returns-5 c = λ below d. rw (c .before .before .before .f4 .given .1, ← c .before .wide4 .ensures .0) (c .at-again .ensures below)
 
+-- `at_opener(p, n, Entry::Block(p + n), top, depth)`
 returns-6 : tie.Need-returns-6
 unfolding nest
 returns-6 c = λ below d. rw (c .before .before .before .f5 .given .1, ← c .before .wide5 .ensures .0) (c .at-opener3 .ensures below d)
 
+-- `Form::End => at_end(p, top)`
 returns-7 : tie.Need-returns-7
 unfolding nest
 returns-7 c = λ below d. rw (c .before .enum-told2 .given .1) (c .at-end .ensures below)

@@ -4,6 +4,7 @@ use Rattle.program.specs.Variable.{recordAt}
 use Rattle.program.proofs.variable.record_at.Statement.{statement}
 use Rattle.program.proofs.variable.record_at.Tie as tie
 
+-- `record_of(locks, threads, s[at], s[at + 1])`
 shared-slice-read-record-of : tie.Need-shared-slice-read-record-of
 shared-slice-read-record-of c = search needs
 

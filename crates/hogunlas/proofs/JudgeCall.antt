@@ -1,0 +1,73 @@
+-- What judge answers, and what its buffer then holds, at each place where its code returns. Assumes nothing.
+--     as-accepted, as-refused    what judge_file says, once its answer is known
+--     report-front, report-within, report-front-length
+--                                the report at the front of the buffer that judge_file was lent
+--     judge-refused              the file is refused
+--     judge-short                the buffer is too short for the report
+--     judge-done                 the report is copied over the buffer
+use Prim.Native.Nat.{ℕ, _<_, _≤_}
+use mathlib.Core.Path.{_≡_, refl, sym, _∙_, ap, subst}
+use mathlib.Core.List.{List, _++_}
+use lib.ListN.{length, take, drop, length-append}
+use lib.Seq.{take-at, take-length}
+use native.Mathlib.Omega.{arith}
+use borrow.Author.Tests.{le-leb, lt-leb}
+use Rattle.judge.specs.Acceptance.{accept}
+use Rattle.judge.specs.Internal.Judgement.{AcceptedAs, Judgement}
+use Rattle.judge.specs.declared.judging.Judging.{Judging}
+use Rattle.judge.specs.declared.judging.Judging.the-variants as judging
+use Rattle.program.specs.Answer.{refused}
+use Rattle.program.specs.declared.layout.Layout.{Layout}
+use Rattle.program.specs.declared.refusal.Refusal.{Refusal}
+use Rattle.program.specs.declared.refusal.Refusal.the-variants.{ShortBuffer}
+use Rattle.hogunlas.specs.Calls.{judgeAnswer, judgedOf, judgeBuffer, laidOver}
+use Rattle.hogunlas.specs.declared.Judged.the-variants as judged
+
+-- what judge_file says, once its answer is known
+pub as-accepted : (s before after : List ℕ) (j : Judging) {l : Layout} {n : ℕ} → j ≡ judging.Done l n
+    → Judgement s before after j → AcceptedAs s before after l n
+as-accepted s before after j e h = subst (Judgement s before after) e h
+
+pub as-refused : (s before after : List ℕ) (j : Judging) {r : Refusal} → j ≡ judging.Refused r
+    → Judgement s before after j → accept s ≡ refused r
+as-refused s before after j e h = subst (Judgement s before after) e h
+
+module _ {s before after : List ℕ} {l : Layout} {n : ℕ} (found : AcceptedAs s before after l n) where
+  -- the report stands at the front of the buffer that judge_file was lent
+  pub report-front : take n after ≡ found .accepted .report
+  report-front = rw (found .bytes) (take-at (found .accepted .report) (drop n before) n (sym (found .size)))
+
+  pub report-within : n ≤ length after
+  report-within = rw (found .bytes) (omega (arith, length-append (found .accepted .report) (drop n before), found .size))
+
+  pub report-front-length : n ≡ length (take n after)
+  report-front-length = found .size ∙ ap length (sym report-front)
+
+module _ (s buffer : List ℕ) where
+  -- the file is refused
+  pub judge-refused : (r : Refusal) → accept s ≡ refused r
+      → (judged.Refused r ≡ judgedOf (judgeAnswer s (length buffer))) × (buffer ≡ judgeBuffer s buffer)
+  unfolding judgeAnswer judgeBuffer
+  judge-refused r e = rw e (refl, refl)
+
+  module _ {before after : List ℕ} {l : Layout} {n : ℕ} (found : AcceptedAs s before after l n) where
+    -- the buffer is too short for the report
+    pub judge-short : length buffer < n
+        → (judged.Refused (ShortBuffer n) ≡ judgedOf (judgeAnswer s (length buffer))) × (buffer ≡ judgeBuffer s buffer)
+    unfolding judgeAnswer judgeBuffer
+    judge-short h =
+        rw (found .accepts, lt-leb (length (found .accepted .report)) (length buffer) (rw (found .size) at h))
+        (ap (λ (k : ℕ). judged.Refused (ShortBuffer k)) (found .size), refl)
+
+    -- the report is copied over the buffer
+    pub judge-done : n ≤ length buffer → (exit : List ℕ)
+        → exit ≡ take (length (take n after)) (take n after) ++ drop (length (take n after)) buffer
+        → (judged.Report n ≡ judgedOf (judgeAnswer s (length buffer))) × (exit ≡ judgeBuffer s buffer)
+    unfolding judgeAnswer judgeBuffer laidOver
+    judge-done h exit e =
+        let report = found .accepted .report in
+        let copied : exit ≡ report ++ drop (length report) buffer =
+        e ∙ ap (λ (front : List ℕ). take (length front) front ++ drop (length front) buffer) (report-front found)
+        ∙ ap (λ (front : List ℕ). front ++ drop (length report) buffer) (take-length report) in
+        rw (found .accepts, le-leb (length report) (length buffer) (rw (found .size) at h))
+        (ap judged.Report (found .size), copied)

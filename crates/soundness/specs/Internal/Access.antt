@@ -1,0 +1,60 @@
+-- What an instruction may do and what it is, by its shared access alone; and when two accesses are independent. Only the proof of
+-- demand 3 speaks of it.
+use Prim.Native.Nat.{ℕ, _+_, _<_}
+use mathlib.Core.Path.{_≡_}
+use mathlib.Core.Bool.{true, false}
+use mathlib.Core.List.{List}
+use lib.ListN.{getD}
+use lib.Dec.{T}
+use Rattle.atomicity.specs.Atomicity.{atMost}
+use Rattle.atomicity.specs.declared.Atomicity.{Atomicity}
+use Rattle.atomicity.specs.declared.Atomicity.the-variants.{Left, Right}
+use Rattle.judge.specs.Discipline.{kindAt, permits}
+use Rattle.judge.specs.LockSet.{holds}
+use Rattle.judge.specs.declared.lock_set.LockSet.{LockSet}
+use Rattle.program.specs.Access.{Access, none, reads, writes, takes, gives}
+use Rattle.machine.specs.Step.{waits, valueRead, variablesAfter, locksAfter}
+use Rattle.program.specs.Layout.{Program}
+
+-- thread t may make the access with the lock set s
+pub data Permitted (p : Program) (t : ℕ) (s : LockSet) : Access → Type 0 where
+  none-permitted : Permitted p t s none
+  read-permitted : {v : ℕ} → permits (kindAt p v) t s false ≡ true → Permitted p t s (reads v)
+  write-permitted : {v a : ℕ} → permits (kindAt p v) t s true ≡ true → Permitted p t s (writes v a)
+  take-permitted : {k : ℕ} → Permitted p t s (takes k)
+  give-permitted : {k : ℕ} → holds s k ≡ true → Permitted p t s (gives k)
+
+-- the lock that it takes is one of n
+unfoldable pub TakesBelow : ℕ → Access → Type 0
+TakesBelow n none = Unit {0}
+TakesBelow n (reads v) = Unit {0}
+TakesBelow n (writes v a) = Unit {0}
+TakesBelow n (takes k) = k < n
+TakesBelow n (gives k) = Unit {0}
+
+-- thread t holds the locks of the set
+pub record Owns (t : ℕ) (s : LockSet) (ks : List ℕ) : Type 0 where
+  pub owner : (k : ℕ) → holds s k ≡ true → getD ks k 0 ≡ t + 1
+
+-- it touches no lock, or no variable
+pub record NoLock (x : Access) : Type 0 where
+  pub locks-stay : (t : ℕ) (ks : List ℕ) → locksAfter x t ks ≡ ks
+  pub never-waits : (ks : List ℕ) → waits x ks ≡ false
+
+pub record NoVariable (x : Access) : Type 0 where
+  pub variables-stay : (r vs : List ℕ) → variablesAfter x r vs ≡ vs
+  pub reads-nothing : (vs : List ℕ) → valueRead x vs ≡ 0
+
+-- neither sees the other, and their order does not matter
+pub record Independent (x y : Access) : Type 0 where
+  pub variables : (r q vs : List ℕ) → variablesAfter y q (variablesAfter x r vs) ≡ variablesAfter x r (variablesAfter y q vs)
+  pub locks : (t u : ℕ) (ks : List ℕ) → locksAfter y u (locksAfter x t ks) ≡ locksAfter x t (locksAfter y u ks)
+  pub first-reads : (q vs : List ℕ) → valueRead x (variablesAfter y q vs) ≡ valueRead x vs
+  pub second-reads : (r vs : List ℕ) → valueRead y (variablesAfter x r vs) ≡ valueRead y vs
+  pub first-waits : (u : ℕ) (ks : List ℕ) → waits x (locksAfter y u ks) ≡ waits x ks
+  pub second-waits : (t : ℕ) (ks : List ℕ) → waits y (locksAfter x t ks) ≡ waits y ks
+
+-- the first of two moves is a right mover or the second a left mover
+pub data Swaps (x y : Atomicity) : Type 0 where
+  right-first : T (atMost x Right) → Swaps x y
+  left-second : T (atMost y Left) → Swaps x y
