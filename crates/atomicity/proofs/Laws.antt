@@ -11,21 +11,19 @@
 --     right-before, right-after               both parts of what is at or below R are at or below R
 --     left-after                              past the commit, what may still follow in a block is at or below L
 use mathlib.Core.Path.{_≡_, refl, _∙_, sym, ap, subst}
-use mathlib.Core.Bool.{Bool, true, false, not}
+use mathlib.Core.Bool.{Bool, true, false, not, _&&_}
 use mathlib.Core.List.{List, [], _∷_, map}
 use Prim.Native.Nat.{ℕ, zero, suc}
 use lib.ListN.{getD}
 use lib.Dec.{T, eqb, eqb→eq, not-T}
+use mir.Facts.{and-yes}
 use Rattle.atomicity.proofs.Table.{valuesOf, valuesOf-at}
-use Rattle.atomicity.specs.Atomicity.{column, composition, join, closure, atMost}
+use Rattle.atomicity.specs.Atomicity.{composition, join, closure, atMost}
+use Rattle.atomicity.specs.Internal.Column.{column}
 use Rattle.atomicity.specs.declared.Atomicity.{Atomicity}
 use Rattle.atomicity.specs.declared.Atomicity.the-variants.{Both, Left, Right, Top}
 
 -- Tests
-
-abbrev and : Bool → Bool → Bool
-and true b = b
-and false b = false
 
 abbrev implies : Bool → Bool → Bool
 implies true b = b
@@ -40,7 +38,7 @@ sameAtomicity a b = eqb (column a) (column b)
 
 abbrev allTrue : List Bool → Bool
 allTrue [] = true
-allTrue (b ∷ bs) = and b (allTrue bs)
+allTrue (b ∷ bs) = b && allTrue bs
 
 -- the test passes at each atomicity
 abbrev atEach : (Atomicity → Bool) → Bool
@@ -53,14 +51,6 @@ abbrev atEachThree : Test → Bool
 atEachThree t = atEach (λ (a : Atomicity). atEach (λ (b : Atomicity). atEach (t a b)))
 
 -- What a passed test tells
-
-and-left : (a b : Bool) → T (and a b) → T a
-and-left true b t = tt
-and-left false b t = t
-
-and-right : (a b : Bool) → T (and a b) → T b
-and-right true b t = t
-and-right false b t = absurd t
 
 implies-to : (a b : Bool) → T (implies a b) → T a → T b
 implies-to true b t h = t
@@ -81,8 +71,8 @@ sameAtomicity-eq a b t =
 
 allTrue-at : (bs : List Bool) (i : ℕ) → T (allTrue bs) → T (getD bs i true)
 allTrue-at [] i t = tt
-allTrue-at (b ∷ bs) zero t = and-left b (allTrue bs) t
-allTrue-at (b ∷ bs) (suc i) t = allTrue-at bs i (and-right b (allTrue bs) t)
+allTrue-at (b ∷ bs) zero t = and-yes b (allTrue bs) t .0
+allTrue-at (b ∷ bs) (suc i) t = allTrue-at bs i (and-yes b (allTrue bs) t .1)
 
 atEach-at : (f : Atomicity → Bool) → T (atEach f) → (a : Atomicity) → T (f a)
 atEach-at f t a = subst T (valuesOf-at f a true) (allTrue-at (valuesOf f) (column a) t)

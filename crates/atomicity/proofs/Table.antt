@@ -8,7 +8,7 @@ use mathlib.Core.Path.{_≡_, refl, _∙_, ap}
 use mathlib.Core.List.{List, [], _∷_}
 use lib.ListN.{getD}
 use lib.Dec.{lit<}
-use Rattle.atomicity.specs.Atomicity.{column}
+use Rattle.atomicity.specs.Internal.Column.{column}
 use Rattle.atomicity.specs.declared.Atomicity.{Atomicity}
 use Rattle.atomicity.specs.declared.Atomicity.the-variants.{Both, Left, Right, Atomic, Top}
 

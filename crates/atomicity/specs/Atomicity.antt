@@ -16,10 +16,6 @@ by b l r a t Top = t
 abbrev pub reportByte : Atomicity → ℕ
 reportByte = by 1 2 3 4 5
 
--- where an atomicity stands in the rows and columns of a table, from 0
-abbrev pub column : Atomicity → ℕ
-column = by 0 1 2 3 4
-
 -- "Composition, row first": each row at B L R A T
 unfoldable pub composition : Atomicity → Atomicity → Atomicity
 composition Both = by Both Left Right Atomic Top

@@ -4,7 +4,8 @@ ghost use mathlib.Core.Path.{_≡_};
 ghost use mathlib.Core.List.{[]};
 ghost use lib.ListN.{getD};
 ghost use Rattle.atomicity.specs.declared.Atomicity.the-variants.{Both};
-ghost use Rattle.atomicity.specs.Atomicity.{atMost, closure, column, composition, join, reportByte};
+ghost use Rattle.atomicity.specs.Atomicity.{atMost, closure, composition, join, reportByte};
+ghost use Rattle.atomicity.specs.Internal.Column.{column};
 
 pub enum Atomicity {
     // B, both mover: its steps commute both ways.

@@ -5,27 +5,18 @@
 --     lines-length, lines-room            the buffer keeps its length, and has room for each line
 use Prim.Native.Nat.{ℕ, _+_, _-_, _<_, _≤_}
 use mathlib.Core.Path.{_≡_, refl, sym, _∙_, ap}
-use mathlib.Core.List.{List, [], _∷_, _++_, append-assoc, append-nil}
-use native.Mathlib.Numerals.{add-one}
+use mathlib.Core.List.{List, [], _++_, flatten, append-assoc, append-nil}
 use native.Mathlib.Omega.{arith}
 use lib.ListN.{length, take, drop, getD, length-append, length-drop}
-use lib.Seq.{take-suc, take-all, take-at, drop-at, drop-drop}
+use lib.Seq.{take-all, take-at, drop-at, drop-drop}
 use Rattle.program.specs.Limits.{lineSize}
 use Rattle.program.specs.Internal.Bounds.{lineLimit, outputLimit}
-use Rattle.hogunlas.specs.Calls.{joined, laidOver}
+use Rattle.hogunlas.specs.Calls.{laidOver}
 use Rattle.printout.specs.Internal.Writing.{WrittenLine}
-use Rattle.program.proofs.Lists.{take-rest, drop-rest}
+use Rattle.program.proofs.Lists.{take-rest, drop-rest, flatten-next}
 use Rattle.bench.specs.Internal.Printing.{Lines}
 
 -- one line more
-joined-snoc : (ls : List (List ℕ)) (l : List ℕ) → joined (ls ++ l ∷ []) ≡ joined ls ++ l
-unfolding joined
-joined-snoc [] l = append-nil l
-joined-snoc (k ∷ ls) l = rw (joined-snoc ls l) (sym (append-assoc k (joined ls) l))
-
-joined-next : (ls : List (List ℕ)) (i : ℕ) → i < length ls → joined (take (i + 1) ls) ≡ joined (take i ls) ++ getD ls i []
-joined-next ls i h = rw (add-one i, take-suc ls i [] h) (joined-snoc (take i ls) (getD ls i []))
-
 laid-next : (front line buffer : List ℕ) → laidOver (front ++ line) buffer ≡ front ++ (line ++ drop (length line) (drop (length front) buffer))
 unfolding laidOver
 laid-next front line buffer =
@@ -39,13 +30,13 @@ laid-within bytes buffer e h = rw (h, e) (omega (arith, length-append bytes (dro
 
 -- before the first line
 pub lines-none : (ls : List (List ℕ)) (buffer : List ℕ) → Lines ls 0 buffer buffer 0
-unfolding joined laidOver
+unfolding flatten laidOver
 lines-none ls buffer = record { within = omega arith; ends = refl; bytes = refl; short = omega arith }
 
 module _ {ls : List (List ℕ)} {i : ℕ} {buffer after : List ℕ} {at : ℕ} (x : Lines ls i buffer after at) where
   -- the lines that are there
   linesWritten : List ℕ
-  linesWritten = joined (take i ls)
+  linesWritten = flatten (take i ls)
 
   -- the buffer keeps its length
   pub lines-length : at ≤ length buffer → length after ≡ length buffer
@@ -69,13 +60,13 @@ module _ {ls : List (List ℕ)} {i : ℕ} {buffer after : List ℕ} {at : ℕ} (
       w .bytes ∙ ap (λ (z : List ℕ). line ++ drop (length line) z) (take-rest at after ∙ rest) in
       record {
         within = omega arith;
-        ends = rw (joined-next ls i h) (omega (arith, length-append linesWritten line, x .ends, w .counted));
-        bytes = rw (joined-next ls i h, laid-next linesWritten line buffer, drop-rest at after, append-nil exit, kept, written);
+        ends = rw (flatten-next ls i h) (omega (arith, length-append linesWritten line, x .ends, w .counted));
+        bytes = rw (flatten-next ls i h, laid-next linesWritten line buffer, drop-rest at after, append-nil exit, kept, written);
         short = omega (arith, w .short, x .short);
       }
 
   -- after the last line
-  pub lines-all : length ls ≤ i → (at ≡ length (joined ls)) × (after ≡ laidOver (joined ls) buffer)
+  pub lines-all : length ls ≤ i → (at ≡ length (flatten ls)) × (after ≡ laidOver (flatten ls) buffer)
   lines-all h =
       let all : take i ls ≡ ls = take-all i ls h in
       (rw all at (x .ends), rw all at (x .bytes))

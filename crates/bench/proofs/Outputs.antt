@@ -1,14 +1,14 @@
 -- What bench prints for each answer of judging. Assumes nothing.
 --     output-refused    the file is refused: the refusal's line
---     output-accepted   it is accepted: its lines, joined
+--     output-accepted   it is accepted: its lines, one after the other
 use Prim.Native.Nat.{ℕ, _≤_}
 use mathlib.Core.Path.{_≡_, sym, ap}
-use mathlib.Core.List.{List, _++_}
+use mathlib.Core.List.{List, _++_, flatten}
 use lib.ListN.{length, drop}
 use lib.Seq.{take-all}
 use native.Mathlib.Omega.{arith}
 use Rattle.hogunlas.proofs.Opening.{opened-by}
-use Rattle.hogunlas.specs.Calls.{benchOutput, joined, laidOver}
+use Rattle.hogunlas.specs.Calls.{benchOutput, laidOver}
 use Rattle.judge.specs.Acceptance.{accept}
 use Rattle.judge.specs.Internal.Judgement.{AcceptedAs}
 use Rattle.printout.proofs.Report.{lines-report}
@@ -30,11 +30,11 @@ module _ (s : List ℕ) (h : length s ≤ benchLimit) where
 
   -- it is accepted; the report stands at the front of a longer array
   pub output-accepted : {before after : List ℕ} {l : Layout} {n : ℕ} → AcceptedAs s before after l n
-      → benchOutput s ≡ joined (lines s (programOf s l) after)
+      → benchOutput s ≡ flatten (lines s (programOf s l) after)
   unfolding benchOutput
   output-accepted {before} {after} {l} {n} found =
       let report : List ℕ = found .accepted .report in
       let o = opened-by found in
       let same : lines s (programOf s l) (report ++ drop n before) ≡ lines s (programOf s l) report =
       lines-report s l report (drop n before) (sound-file s l (found .reads)) (omega (arith, found .counted, found .size)) in
-      rw (take-all benchLimit s h, o .accepts, found .bytes) (ap joined (sym same))
+      rw (take-all benchLimit s h, o .accepts, found .bytes) (ap flatten (sym same))

@@ -7,6 +7,7 @@ use printout::print::write_line;
 use program::layout::Layout;
 use program::limits::REPORT_LIMIT;
 ghost use mathlib.Core.Path.{_≡_};
+ghost use mathlib.Core.List.{flatten};
 ghost use Prim.Native.Nat.{_+_, _≤_};
 ghost use lib.ListN.{length};
 ghost use Rattle.program.specs.Answer.{fine};
@@ -14,13 +15,13 @@ ghost use Rattle.program.specs.Limits.{benchLimit};
 ghost use Rattle.program.specs.Internal.Bounds.{outputLimit};
 ghost use Rattle.program.specs.Layout.{programOf, reading};
 ghost use Rattle.printout.specs.Line.{lines};
-ghost use Rattle.hogunlas.specs.Calls.{benchOutput, joined, laidOver};
+ghost use Rattle.hogunlas.specs.Calls.{benchOutput, laidOver};
 
 // All lines of an accepted file, with its report, one after the other; answers how many bytes they take.
 fn print_lines(file: &[u8], l: Layout, report: &[u8], text: &mut [u8]) -> usize
     requires { ⌜ (reading (now file) ≡ fine l) × (l .instructions + l .threads ≤ length (now report)) × (outputLimit ≤ length (now text)) ⌝ }
-    ensures result { λ r. ⌜ r ≡ length (joined (lines (now (file .entry)) (programOf (now (file .entry)) l) (now (report .entry)))) ⌝ }
-    ensures buffer { λ _. ⌜ now (text .exit) ≡ laidOver (joined (lines (now (file .entry)) (programOf (now (file .entry)) l) (now (report .entry)))) (now (text .entry)) ⌝ }
+    ensures result { λ r. ⌜ r ≡ length (flatten (lines (now (file .entry)) (programOf (now (file .entry)) l) (now (report .entry)))) ⌝ }
+    ensures buffer { λ _. ⌜ now (text .exit) ≡ laidOver (flatten (lines (now (file .entry)) (programOf (now (file .entry)) l) (now (report .entry)))) (now (text .entry)) ⌝ }
 {
     let count = line_count(l);
     let mut i = 0;

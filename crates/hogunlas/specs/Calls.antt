@@ -1,7 +1,7 @@
 -- What each public call answers, and what its buffer then holds (document 01, "Atomicities", "The step machine", "Line and bench";
 -- "Who can bring a number about" for the order of the refusals).
 use Prim.Native.Nat.{ℕ}
-use mathlib.Core.List.{List, [], _∷_, _++_}
+use mathlib.Core.List.{List, [], _++_, flatten}
 use lib.ListN.{length, getD, take, drop}
 use lib.Dec.{ltb, leb}
 use Rattle.judge.specs.Acceptance.{Accepted, accept}
@@ -92,12 +92,8 @@ lineBuffer s i buffer = bufferAfter (λ (text : List ℕ). text) (lineAnswer s i
 
 -- bench
 
-unfoldable pub joined : List (List ℕ) → List ℕ
-joined [] = []
-joined (l ∷ ls) = l ++ joined ls
-
 abbrev pub outputOf : List ℕ → Answer Accepted → List ℕ
-outputOf s (fine a) = joined (lines s (a .program) (a .report))
+outputOf s (fine a) = flatten (lines s (a .program) (a .report))
 outputOf s (refused r) = refusalLine r
 
 -- "prints all lines, or `refused N at D` and a newline. It reads at most 33,174 bytes"

@@ -25,7 +25,7 @@ use Rattle.program.proofs.Sound.{sound-file}
 use Rattle.judge.specs.Acceptance.{Accepted, accept, sound}
 use Rattle.judge.specs.Internal.Judgement.{AcceptedAs}
 use Rattle.judge.specs.Judging.{judgeCodes, judgeProgram}
-use Rattle.judge.specs.Rules.{Nested}
+use Rattle.judge.specs.Internal.Nested.{Nested}
 use Rattle.judge.specs.Internal.Scan.{scanCodes}
 use Rattle.judge.proofs.NestedSections.{sections-nested}
 use Rattle.judge.proofs.ScanCodes.{reportSize, codes-agree, codes-size}

@@ -1,4 +1,5 @@
 -- Laws that belong to no one function.
+--     Definitions     the definitions of judging open
 --     LockSets        sets of 16 flags: comparing them
 --     VariableKinds   the kind of a variable, found in the file
 --     Verdicts        a test's verdict, as an answer
@@ -11,6 +12,7 @@
 --     Accepting       from the scan to what judging a file answers
 --     Rules, RulesProgram, RulesFile
 --                     judging code, a program and a file is deriving by the rules
+pub mod Definitions
 pub mod LockSets
 pub mod VariableKinds
 pub mod Verdicts

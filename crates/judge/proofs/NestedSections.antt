@@ -4,7 +4,7 @@ use Prim.Native.Nat.{ℕ, zero, suc, _+_, _*_}
 use mathlib.Core.List.{List}
 use Rattle.program.specs.Layout.{codesAt}
 use Rattle.program.specs.Internal.Sound.{SoundSections, countAt}
-use Rattle.judge.specs.Rules.{Nested}
+use Rattle.judge.specs.Internal.Nested.{Nested}
 
 pub sections-nested : (s : List ℕ) (locks variables n at m : ℕ) → SoundSections s locks variables n at m → Nested (codesAt locks variables s n at)
 unfolding Nested codesAt

@@ -17,8 +17,7 @@ use Rattle.atomicity.specs.Atomicity.{reportByte}
 use Rattle.atomicity.specs.declared.Atomicity.{Atomicity}
 use Rattle.atomicity.specs.declared.Atomicity.the-variants as atomicity
 use Rattle.program.specs.Access.{Access, none, reads, writes, takes, gives, accessOf}
-use Rattle.program.specs.Answer.{Answer, fine, refused}
-use Rattle.program.specs.Choice.{choose}
+use Rattle.program.specs.Answer.{Answer, fine, require}
 use Rattle.program.specs.Code.{Code, done, plain, choice, loop, block, size}
 use Rattle.program.specs.Layout.{Program}
 use Rattle.program.specs.Internal.WellFormed.{WellFormed}
@@ -49,16 +48,9 @@ top-not atomicity.Right n = refl
 top-not atomicity.Atomic n = refl
 top-not atomicity.Top n = absurd (n refl)
 
--- the refusals differ, what is fine does not
-fine-any-refusal : {A : Type 0} (ok : Bool) (x : Answer A) (r q : Refusal) {a : A}
-    → choose ok x (refused r) ≡ fine a → choose ok x (refused q) ≡ fine a
-fine-any-refusal true x r q e = e
-fine-any-refusal false x r q e = differ cc
-
-fine-any-refusal-else : {A : Type 0} (ok : Bool) (x : Answer A) (r q : Refusal) {a : A}
-    → choose ok (refused r) x ≡ fine a → choose ok (refused q) x ≡ fine a
-fine-any-refusal-else true x r q e = differ cc
-fine-any-refusal-else false x r q e = e
+-- another refusal behind the test: what is fine does not differ
+require-anywhere : {A : Type 0} (ok : Bool) (r q : Refusal) (x : Answer A) {a : A} → require ok r x ≡ fine a → require ok q x ≡ fine a
+require-anywhere ok r q x e = require-inv ok r x e λ h f. require-on ok q x h f
 
 module _ (p : Program) (t : ℕ) where
   -- the lock discipline asks for no offset
@@ -66,10 +58,10 @@ module _ (p : Program) (t : ℕ) where
       → accessedSet p t d′ x s ≡ fine s′
   unfolding accessedSet
   access-anywhere none d d′ s e = e
-  access-anywhere (reads v) d d′ s e = fine-any-refusal (permits (kindAt p v) t s false) _ _ _ e
-  access-anywhere (writes v a) d d′ s e = fine-any-refusal (permits (kindAt p v) t s true) _ _ _ e
-  access-anywhere (takes k) d d′ s e = fine-any-refusal-else (holds s k) _ _ _ e
-  access-anywhere (gives k) d d′ s e = fine-any-refusal (holds s k) _ _ _ e
+  access-anywhere (reads v) d d′ s e = require-anywhere (permits (kindAt p v) t s false) _ _ _ e
+  access-anywhere (writes v a) d d′ s e = require-anywhere (permits (kindAt p v) t s true) _ _ _ e
+  access-anywhere (takes k) d d′ s e = require-anywhere (not (holds s k)) _ _ _ e
+  access-anywhere (gives k) d d′ s e = require-anywhere (holds s k) _ _ _ e
 
   pub locks-anywhere : (i : Instruction) (d d′ : ℕ) (s : LockSet) {s′ : LockSet} → lockSetAfter p t d i s ≡ fine s′
       → lockSetAfter p t d′ i s ≡ fine s′

@@ -15,7 +15,8 @@ use Rattle.program.proofs.Answer.{fine-inj, bind-inv, bind-on}
 use Rattle.program.proofs.Sound.{sound-file}
 use Rattle.judge.specs.Acceptance.{Accepted, sound, accept}
 use Rattle.judge.specs.Judging.{judgeProgram}
-use Rattle.judge.specs.Rules.{TypedProgram, programReport, Nested}
+use Rattle.judge.specs.Rules.{TypedProgram, programReport}
+use Rattle.judge.specs.Internal.Nested.{Nested}
 use Rattle.judge.proofs.NestedSections.{sections-nested}
 use Rattle.judge.proofs.RulesProgram.{program-exactly}
 

@@ -17,7 +17,8 @@ use Rattle.program.proofs.Answer.{fine-inj, bind-inv, require-inv, bind-on, req
 use Rattle.program.proofs.Structure.{nested-flat}
 use Rattle.judge.specs.Judging.{judge, judgeCode, judgeCodes, judgeProgram}
 use Rattle.judge.specs.LockSet.{empty, same}
-use Rattle.judge.specs.Rules.{Typed, TypedCode, codeReport, TypedCodes, typed-none, typed-code, codesReport, TypedProgram, programReport, Nested}
+use Rattle.judge.specs.Rules.{Typed, TypedCode, codeReport, TypedCodes, typed-none, typed-code, codesReport, TypedProgram, programReport}
+use Rattle.judge.specs.Internal.Nested.{Nested}
 use Rattle.judge.specs.declared.lock_set.LockSet.{LockSet}
 use Rattle.judge.proofs.LockSets.{same-eq, same-self}
 use Rattle.judge.proofs.Rules.{judge-typed, typed-judge}

@@ -15,9 +15,9 @@ use Rattle.atomicity.specs.declared.Atomicity.{Atomicity}
 use Rattle.atomicity.specs.declared.Atomicity.the-variants.{Both}
 use Rattle.atomicity.proofs.Laws.{both-then}
 use Rattle.program.specs.Answer.{Answer, fine, _>>=_}
-use Rattle.program.specs.Code.{size, flat, structured}
+use Rattle.program.specs.Code.{size, structured}
 use Rattle.program.specs.Layout.{Program, CodeSection}
-use Rattle.program.specs.Internal.WellFormed.{Writes}
+use Rattle.program.specs.Internal.WellFormed.{flat, Writes}
 use Rattle.program.specs.declared.instruction.Instruction.{Instruction}
 use Rattle.program.specs.declared.refusal.Refusal.the-variants.{SetsDiffer}
 use Rattle.program.proofs.Answer.{Holds, bind-assoc, bind-ext, bind-holds, require-bind, require-ext, require-holds, holds-fine}
@@ -26,7 +26,7 @@ use Rattle.program.proofs.Structure.{nested-flat}
 use Rattle.program.proofs.StructureFlat.{length-flat}
 use Rattle.judge.specs.Judging.{judge, judgeCode, judgeCodes}
 use Rattle.judge.specs.LockSet.{empty, same}
-use Rattle.judge.specs.Rules.{Nested}
+use Rattle.judge.specs.Internal.Nested.{Nested}
 use Rattle.judge.specs.Internal.Scan.{Carried, scan, starting, ending, scanCode, scanCodes}
 use Rattle.judge.proofs.Scanning.{report-size, scan-agrees}
 

@@ -19,11 +19,11 @@ use Rattle.atomicity.specs.declared.Atomicity.the-variants.{Both}
 use Rattle.atomicity.proofs.Laws.{then-assoc, both-then, then-both}
 use Rattle.program.specs.Answer.{Answer, fine, _>>=_, require}
 use Rattle.program.specs.Choice.{choose}
-use Rattle.program.specs.Code.{Code, done, plain, choice, loop, block, size, flat}
+use Rattle.program.specs.Code.{Code, done, plain, choice, loop, block, size}
 use Rattle.program.specs.Instruction.{formOf}
 use Rattle.program.specs.Layout.{Program}
 use Rattle.program.specs.Limits.{entryLimit}
-use Rattle.program.specs.Internal.WellFormed.{WellFormed, depth}
+use Rattle.program.specs.Internal.WellFormed.{flat, WellFormed, depth}
 use Rattle.program.specs.declared.instruction.Instruction.{Instruction}
 use Rattle.program.specs.declared.instruction.Instruction.the-variants as instruction
 use Rattle.program.specs.declared.refusal.Refusal.{Refusal}

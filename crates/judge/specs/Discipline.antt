@@ -7,8 +7,7 @@ use lib.Dec.{eqb}
 use Rattle.atomicity.specs.declared.Atomicity.{Atomicity}
 use Rattle.atomicity.specs.declared.Atomicity.the-variants as atomicity
 use Rattle.program.specs.Access.{Access, none, reads, writes, takes, gives, accessOf}
-use Rattle.program.specs.Answer.{Answer, fine, refused}
-use Rattle.program.specs.Choice.{choose}
+use Rattle.program.specs.Answer.{Answer, fine, require}
 use Rattle.program.specs.Layout.{Program}
 use Rattle.program.specs.declared.instruction.Instruction.{Instruction}
 use Rattle.program.specs.declared.refusal.Refusal.the-variants as refusal
@@ -32,10 +31,10 @@ permits Open c s isWrite = true
 -- the lock set after an access of code c at file offset d, or what it offends. "TAKE adds its lock, GIVE takes it out"
 unfoldable pub accessedSet : Program → (c d : ℕ) → Access → LockSet → Answer LockSet
 accessedSet p c d none s = fine s
-accessedSet p c d (reads v) s = choose (permits (kindAt p v) c s false) (fine s) (refused (refusal.Access d))
-accessedSet p c d (writes v a) s = choose (permits (kindAt p v) c s true) (fine s) (refused (refusal.Access d))
-accessedSet p c d (takes k) s = choose (holds s k) (refused (refusal.Taken d)) (fine (withLock s k))
-accessedSet p c d (gives k) s = choose (holds s k) (fine (withoutLock s k)) (refused (refusal.NotTaken d))
+accessedSet p c d (reads v) s = require (permits (kindAt p v) c s false) (refusal.Access d) (fine s)
+accessedSet p c d (writes v a) s = require (permits (kindAt p v) c s true) (refusal.Access d) (fine s)
+accessedSet p c d (takes k) s = require (not (holds s k)) (refusal.Taken d) (fine (withLock s k))
+accessedSet p c d (gives k) s = require (holds s k) (refusal.NotTaken d) (fine (withoutLock s k))
 
 unfoldable pub lockSetAfter : Program → (c d : ℕ) → Instruction → LockSet → Answer LockSet
 lockSetAfter p c d i s = accessedSet p c d (accessOf i) s

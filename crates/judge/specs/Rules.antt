@@ -1,7 +1,7 @@
 -- The rules of judging as derivations (source 003, section 3: its figure of rules; document 01, "Lock discipline", "Atomicities").
 -- What judging finds is exactly what these rules derive (`proofs/Rules.antt`); they speak of no offset and of no order of offences.
 --
--- In order: the rules, one for each construct; the report of a derivation; a code, and a program; what the theorem asks of a program.
+-- In order: the rules, one for each construct; the report of a derivation; a code, and a program.
 use Prim.Native.Nat.{ℕ, suc}
 use mathlib.Core.Path.{_≡_}
 use mathlib.Core.Logic.{_≢_}
@@ -13,8 +13,6 @@ use Rattle.program.specs.Answer.{fine}
 use Rattle.program.specs.Code.{Code, done, plain, choice, loop, block, structured}
 use Rattle.program.specs.Instruction.{formOf}
 use Rattle.program.specs.Layout.{Program, CodeSection}
-use Rattle.program.specs.Nesting.{firstBroken}
-use Rattle.program.specs.declared.found.Found.the-variants.{Nowhere}
 use Rattle.program.specs.declared.instruction.Form.the-variants.{Plain}
 use Rattle.program.specs.declared.instruction.Instruction.{Instruction}
 use Rattle.judge.specs.Discipline.{lockSetAfter, atomicityOf}
@@ -89,10 +87,3 @@ TypedProgram p = TypedCodes p 0 (p .codes)
 
 abbrev pub programReport : {p : Program} → TypedProgram p → List ℕ
 programReport codes = codesReport codes
-
--- ---- what the theorem asks of a program
-
--- every code is well nested, as in a sound file
-unfoldable pub Nested : List CodeSection → Type 0
-Nested [] = Unit
-Nested (section ∷ sections) = (firstBroken 0 (section .code) [] ≡ Nowhere) × Nested sections

@@ -17,7 +17,7 @@ use Rattle.program.specs.Variable.{Variable}
 use Rattle.program.specs.declared.instruction.Instruction.{Instruction}
 use Rattle.program.specs.declared.layout.Layout.{Layout}
 use Rattle.program.proofs.Contents.{length-variables}
-use Rattle.program.proofs.Lists.{getD-replicate-same, getD-set-holds}
+use Rattle.program.proofs.Lists.{getD-replicate-same, getD-set-holds, length-flatMap}
 use Rattle.machine.specs.State.{State, start, fresh, threadOf, threadBytes, stateBytes}
 use Rattle.program.specs.Access.{accessOf}
 use Rattle.program.specs.Limits.{registerCount, threadSize, sizeOfState}
@@ -27,7 +27,7 @@ use Rattle.machine.specs.declared.thread.Outcome.{Outcome}
 use Rattle.machine.specs.declared.thread.Outcome.the-variants.{Moved, Waiting, Idle}
 use Rattle.machine.specs.declared.thread.Thread.{Thread}
 use Rattle.machine.proofs.Kept.{length-variables-after, length-locks-after, length-registers-after}
-use Rattle.machine.proofs.StateBytes.{length-each, length-words, length-thread}
+use Rattle.machine.proofs.StateBytes.{length-words, length-thread}
 
 pub record Shape (p : Program) (s : State) : Type 0 where
   pub variables : length (s .variables) ≡ length (p .variables)
@@ -82,7 +82,7 @@ module _ (p : Program) where
         length-words,
         h .variables,
         h .locks,
-        length-each threadBytes threadSize (s .threads) fresh (λ i l. length-thread (getD (s .threads) i fresh) (h .registers i)),
+        length-flatMap threadBytes threadSize (s .threads) fresh (λ i l. length-thread (getD (s .threads) i fresh) (h .registers i)),
         h .threads,
       )
 

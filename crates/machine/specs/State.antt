@@ -1,7 +1,7 @@
 -- The state (document 01, "The step machine": "the variables, each lock (0 free, or thread number plus 1), and for each thread its
 -- place and eight registers"), its start, and its bytes.
 use Prim.Native.Nat.{ℕ, _/_, _%_}
-use mathlib.Core.List.{List, [], _∷_, _++_, map}
+use mathlib.Core.List.{List, [], _∷_, _++_, map, flatMap}
 use lib.ListN.{getD, replicate}
 use Rattle.program.specs.Layout.{Program}
 use Rattle.program.specs.Limits.{registerCount}
@@ -36,13 +36,9 @@ pairBytes n = n / 256 % 256 ∷ n % 256 ∷ []
 unfoldable pub wordBytes : ℕ → List ℕ
 wordBytes n = n / 16777216 % 256 ∷ n / 65536 % 256 ∷ n / 256 % 256 ∷ n % 256 ∷ []
 
-unfoldable pub each : {A : Type 0} → (A → List ℕ) → List A → List ℕ
-each bytes [] = []
-each bytes (x ∷ xs) = bytes x ++ each bytes xs
-
 unfoldable pub threadBytes : Thread → List ℕ
-threadBytes th = pairBytes (th .place) ++ each wordBytes (th .registers)
+threadBytes th = pairBytes (th .place) ++ flatMap wordBytes (th .registers)
 
 -- "variables (4 bytes each), locks (1 each), then for each thread its place (2) and registers (4 each)"
 unfoldable pub stateBytes : State → List ℕ
-stateBytes s = each wordBytes (s .variables) ++ s .locks ++ each threadBytes (s .threads)
+stateBytes s = flatMap wordBytes (s .variables) ++ s .locks ++ flatMap threadBytes (s .threads)

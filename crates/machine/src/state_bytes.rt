@@ -6,12 +6,13 @@ use program::limits::THREAD_LIMIT;
 use program::limits::THREAD_SIZE;
 use program::limits::WORD_SIZE;
 ghost use mathlib.Core.Path.{_≡_};
+ghost use mathlib.Core.List.{flatMap};
 ghost use Prim.Native.Nat.{_+_, _*_, _≤_};
 ghost use lib.ListN.{length, take};
 ghost use lib.Seq.{sets};
 ghost use Rattle.program.specs.Limits.{threadLimit, registerCount, wordSize, threadSize, sizeOfState};
 ghost use Rattle.machine.specs.Internal.Kept.{stateIn, EightRegisters};
-ghost use Rattle.machine.specs.State.{pairBytes, wordBytes, threadBytes, stateBytes, each};
+ghost use Rattle.machine.specs.State.{pairBytes, wordBytes, threadBytes, stateBytes};
 
 // A number of two bytes.
 fn write_pair(out: &mut [u8], at: usize, x: usize)
@@ -36,7 +37,7 @@ fn write_word(out: &mut [u8], at: usize, x: u32)
 // The first n numbers, four bytes each: variables, and registers.
 fn write_words(out: &mut [u8], at: usize, n: usize, words: &[u32])
     requires { ⌜ (at + wordSize * n ≤ length (now out)) × (n ≤ length (now words)) ⌝ }
-    ensures { λ r. ⌜ now (out .exit) ≡ sets (now (out .entry)) at (each wordBytes (take n (now (words .entry)))) ⌝ }
+    ensures { λ r. ⌜ now (out .exit) ≡ sets (now (out .entry)) at (flatMap wordBytes (take n (now (words .entry)))) ⌝ }
 {
     let mut i: usize = 0;
     while i < n {
@@ -70,7 +71,7 @@ fn write_thread(out: &mut [u8], at: usize, th: Thread)
 // The first n threads.
 fn write_threads(out: &mut [u8], at: usize, n: usize, threads: [Thread; THREAD_LIMIT])
     requires { ⌜ (at + threadSize * n ≤ length (now out)) × (n ≤ threadLimit) × EightRegisters threads ⌝ }
-    ensures { λ r. ⌜ now (out .exit) ≡ sets (now (out .entry)) at (each threadBytes (take n threads)) ⌝ }
+    ensures { λ r. ⌜ now (out .exit) ≡ sets (now (out .entry)) at (flatMap threadBytes (take n threads)) ⌝ }
 {
     let mut i: usize = 0;
     while i < n {

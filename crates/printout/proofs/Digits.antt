@@ -1,5 +1,4 @@
 -- Laws of hexadecimal and decimal digits. Assumes nothing.
---     hexes-append                  the digits of bytes one after the other
 --     raw-more                      one raw byte more
 --     digits-small, digits-large    the digits of a number of one digit; of more: the last digit after those of its tenth
 --     decimal-length                how many digits a number below a power of ten has
@@ -7,7 +6,7 @@
 --     decimal-large-length          it has one digit more than its tenth
 use mathlib.Core.Path.{_≡_, refl, sym, ap, _∙_}
 use mathlib.Core.Logic.{_⊎_, inl, inr, ⊎-elim}
-use mathlib.Core.List.{List, [], _∷_, _++_, append-assoc, append-nil}
+use mathlib.Core.List.{List, [], _∷_, _++_, flatMap, append-nil}
 use Prim.Native.Nat.{ℕ, zero, suc, _+_, _/_, _%_, _^_, _≤_, _<_}
 use native.Mathlib.Omega.{arith, not-le}
 use native.Mathlib.Nat.{pow-suc}
@@ -15,22 +14,18 @@ use lib.ListN.{length, getD, take, drop, length-append, length-drop}
 use lib.Seq.{take-suc, getD-drop}
 use native.Mathlib.Decide.{decLe}
 use borrow.Author.Tests.{lt-ltb, le-ltb}
-use Rattle.printout.specs.Text.{hex, hexes, digits, decimal}
+use Rattle.program.proofs.Lists.{flatMap-append}
+use Rattle.printout.specs.Text.{hex, digits, decimal}
 use Rattle.printout.specs.Line.{raw}
 
 -- Hexadecimal
 
-pub hexes-append : (xs ys : List ℕ) → hexes (xs ++ ys) ≡ hexes xs ++ hexes ys
-unfolding hexes
-hexes-append [] ys = refl
-hexes-append (x ∷ xs) ys = ap (λ (z : List ℕ). hex x ++ z) (hexes-append xs ys) ∙ sym (append-assoc (hex x) (hexes xs) (hexes ys))
-
 -- one raw byte more
 pub raw-more : (s : List ℕ) (from i : ℕ) → from + i < length s → raw s from (suc i) ≡ raw s from i ++ hex (getD s (from + i) 0)
-unfolding raw hexes
+unfolding raw flatMap
 raw-more s from i h =
-    ap hexes (take-suc (drop from s) i 0 (rw (length-drop from s) (omega arith)))
-    ∙ hexes-append (take i (drop from s)) (getD (drop from s) i 0 ∷ [])
+    ap (flatMap hex) (take-suc (drop from s) i 0 (rw (length-drop from s) (omega arith)))
+    ∙ flatMap-append hex (take i (drop from s)) (getD (drop from s) i 0 ∷ [])
     ∙ ap (λ (z : ℕ). raw s from i ++ (hex z ++ [])) (getD-drop from s i 0)
     ∙ ap (λ (z : List ℕ). raw s from i ++ z) (append-nil (hex (getD s (from + i) 0)))
 

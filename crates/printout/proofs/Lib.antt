@@ -1,8 +1,10 @@
 -- Laws of the printout.
---     Stored   runs of stores into a buffer, and lines as runs of words
---     Digits   hexadecimal and decimal digits
---     Parts    the lines by index, and how a walk over the code sections finds them
---     Report   what stands after the report in a longer array changes no line
+--     Definitions  the definitions of the printout open
+--     Stored       runs of stores into a buffer, and lines as runs of words
+--     Digits       hexadecimal and decimal digits
+--     Parts        the lines by index, and how a walk over the code sections finds them
+--     Report       what stands after the report in a longer array changes no line
+pub mod Definitions
 pub mod Stored
 pub mod Digits
 pub mod Parts

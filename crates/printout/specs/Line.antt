@@ -1,7 +1,7 @@
 -- Every line of the printout, in order (document 01, "Line and bench").
 use Prim.Native.Nat.{ℕ, suc, _+_, _-_}
 use Prim.Native.String.{String}
-use mathlib.Core.List.{List, [], _∷_, _++_}
+use mathlib.Core.List.{List, [], _∷_, _++_, flatMap}
 use lib.ListN.{length, getD, take, drop}
 use Rattle.program.specs.Field.{byteAt}
 use Rattle.program.specs.Layout.{Program, CodeSection}
@@ -13,11 +13,11 @@ use Rattle.program.specs.declared.instruction.Instruction.the-variants.{Set, Co
 use Rattle.program.specs.declared.refusal.Refusal.{Refusal}
 use Rattle.program.specs.declared.variable.Kind.{Kind}
 use Rattle.program.specs.declared.variable.Kind.the-variants.{Guarded, Own, Fixed, Open}
-use Rattle.printout.specs.Text.{ascii, hexes, decimal, lineOf}
+use Rattle.printout.specs.Text.{ascii, hex, decimal, lineOf}
 
--- n raw bytes of the file from an offset on
+-- n raw bytes of the file from an offset on, with nothing between them
 unfoldable pub raw : List ℕ → (at n : ℕ) → List ℕ
-raw s at n = hexes (take n (drop at s))
+raw s at n = flatMap hex (take n (drop at s))
 
 -- `r`, `v`, `k` or `t` and a number
 unfoldable pub numbered : String → ℕ → List ℕ

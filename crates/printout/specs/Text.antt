@@ -20,11 +20,6 @@ hexDigit d = choose (ltb d 10) (48 + d) (55 + d)
 unfoldable pub hex : ℕ → List ℕ
 hex b = hexDigit (b / 16) ∷ hexDigit (b % 16) ∷ []
 
--- several bytes with nothing between them
-unfoldable pub hexes : List ℕ → List ℕ
-hexes [] = []
-hexes (b ∷ bs) = hex b ++ hexes bs
-
 -- a number in decimal, of at most k digits
 unfoldable pub digits : ℕ → ℕ → List ℕ
 digits zero n = []

@@ -1,23 +1,25 @@
 -- Laws that belong to no one function.
---     Figures    document 01's figures for the limits that follow from others
---     Differ     constructors that differ are not equal
---     Lists      facts about lists that the kit does not have
---     Answer     answers: going on, and what a fine one went on from
---     Decode     what a decoded instruction's fields satisfy
---     Contents   a file's contents by index
---     Search     the search for the first offence
---     Stack      a stack held in an array
---     Change     what one instruction does to the open entries
---     Scan       the scan for the first place where nesting is broken
---     ReadBack   what is known where reading a part of the file answered a value
---     Sections   the code sections of the threads
---     Steps      the steps of the definition of reading
---     Sound      what a file that is read as sound holds
---     Prefix     bytes past the largest file's length are not looked at
---     Structure  nesting passes exactly for the flat writing of structured code; by way of
---                StructureFlat (the flat writing, and reading it back), StructureTurn (what a scan that passes has come to),
---                StructureParse (from the scan to the code) and StructureScan (from the code to the scan)
---     Jumps      distances lead to places of the code
+--     Definitions  the definitions of reading open
+--     Figures      document 01's figures for the limits that follow from others
+--     Differ       constructors that differ are not equal
+--     Lists        facts about lists that the kit does not have
+--     Answer       answers: going on, and what a fine one went on from
+--     Decode       what a decoded instruction's fields satisfy
+--     Contents     a file's contents by index
+--     Search       the search for the first offence
+--     Stack        a stack held in an array
+--     Change       what one instruction does to the open entries
+--     Scan         the scan for the first place where nesting is broken
+--     ReadBack     what is known where reading a part of the file answered a value
+--     Sections     the code sections of the threads
+--     Steps        the steps of the definition of reading
+--     Sound        what a file that is read as sound holds
+--     Prefix       bytes past the largest file's length are not looked at
+--     Structure    nesting passes exactly for the flat writing of structured code; by way of
+--                  StructureFlat (the flat writing, and reading it back), StructureTurn (what a scan that passes has come to),
+--                  StructureParse (from the scan to the code) and StructureScan (from the code to the scan)
+--     Jumps        distances lead to places of the code
+pub mod Definitions
 pub mod Figures
 pub mod Differ
 pub mod Lists

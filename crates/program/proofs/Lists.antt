@@ -10,16 +10,20 @@
 --     set-sets         a store in front of a run of stores
 --     sets-front       a run of stores from the front on; what is behind it stays
 --     sets-copied      one element more of a list that is copied
+--     flatMap-append, flatMap-next, length-flatMap
+--                      what the elements of a list give, one after the other: of two lists; of one element more; how much, where
+--                      each gives as much
+--     flatten-next     lists one after the other: one list more
 --     listed           the elements of a list, one by one
 --     listed-self, listed-set
 --                      a list is its elements; with another element at a it is that one at a and its own elsewhere
-use Prim.Native.Nat.{ℕ, zero, suc, _+_, _-_, _≤_, _<_}
+use Prim.Native.Nat.{ℕ, zero, suc, _+_, _-_, _*_, _≤_, _<_}
 use mathlib.Core.Path.{_≡_, refl, sym, _∙_, ap}
-use mathlib.Core.List.{List, [], _∷_, _++_}
-use native.Mathlib.Nat.{add-zero, zero-add}
+use mathlib.Core.List.{List, [], _∷_, _++_, flatMap, flatten, append-assoc, append-nil}
+use native.Mathlib.Nat.{add-zero, zero-add, mul-zero, mul-suc}
 use native.Mathlib.Numerals.{add-one}
 use native.Mathlib.Omega.{arith}
-use lib.ListN.{length, getD, set, take, drop, replicate, length-drop, drop-of-length-le}
+use lib.ListN.{length, getD, set, take, drop, replicate, length-append, length-drop, drop-of-length-le}
 use lib.Dec.{eqb, eqb·zero-suc, eqb·suc-zero, eqb·suc-suc}
 use lib.Seq.{sets, set-comm, sets-eq, take-suc, take-all, getD-take, length-take-le}
 use Rattle.program.specs.Choice.{choose}
@@ -74,6 +78,14 @@ module _ {A : Type 0} where
       let k : i ≤ length v = omega arith in
       rw (add-one, take-suc v i d h, sets-append, length-take-le i v k)
 
+  flatten-snoc : (ls : List (List A)) (l : List A) → flatten (ls ++ l ∷ []) ≡ flatten ls ++ l
+  unfolding flatten
+  flatten-snoc [] l = append-nil l
+  flatten-snoc (k ∷ ls) l = rw (flatten-snoc ls l) (sym (append-assoc k (flatten ls) l))
+
+  pub flatten-next : (ls : List (List A)) (i : ℕ) → i < length ls → flatten (take (i + 1) ls) ≡ flatten (take i ls) ++ getD ls i []
+  flatten-next ls i h = rw (add-one i, take-suc ls i [] h) (flatten-snoc (take i ls) (getD ls i []))
+
   unfoldable pub listed : ℕ → (ℕ → A) → List A
   listed zero f = []
   listed (suc n) f = f 0 ∷ listed n (λ k. f (suc k))
@@ -88,3 +100,21 @@ module _ {A : Type 0} where
   listed-set [] i x d = refl
   listed-set (a ∷ l) zero x d = simp eqb·zero-suc (ap (λ (m : List A). x ∷ m) (listed-self l d))
   listed-set (a ∷ l) (suc i) x d = simp (eqb·suc-zero, eqb·suc-suc) (ap (λ (m : List A). a ∷ m) (listed-set l i x d))
+
+module _ {A B : Type 0} (f : A → List B) where
+  pub flatMap-append : (xs ys : List A) → flatMap f (xs ++ ys) ≡ flatMap f xs ++ flatMap f ys
+  unfolding flatMap
+  flatMap-append [] ys = refl
+  flatMap-append (x ∷ xs) ys = rw (flatMap-append xs ys, append-assoc)
+
+  pub flatMap-next : (xs : List A) (i : ℕ) (d : A) → i < length xs → flatMap f (take (i + 1) xs) ≡ flatMap f (take i xs) ++ f (getD xs i d)
+  unfolding flatMap
+  flatMap-next xs i d h = rw (add-one, take-suc xs i d, flatMap-append, append-nil)
+
+  pub length-flatMap : (k : ℕ) (xs : List A) (d : A) → ((i : ℕ) → i < length xs → length (f (getD xs i d)) ≡ k)
+      → length (flatMap f xs) ≡ k * length xs
+  unfolding flatMap
+  length-flatMap k [] d h = sym (mul-zero k)
+  length-flatMap k (x ∷ xs) d h =
+      length-append (f x) (flatMap f xs)
+      ∙ rw (h 0 (omega arith), length-flatMap k xs d (λ i l. h (suc i) (omega arith)), mul-suc) (omega arith)

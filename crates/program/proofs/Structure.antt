@@ -12,9 +12,9 @@ use mathlib.Core.List.{List, []}
 use Rattle.program.specs.declared.found.Found.the-variants.{Nowhere}
 use Rattle.program.specs.declared.instruction.Instruction.{Instruction}
 use Rattle.program.specs.Nesting.{firstBroken}
-use Rattle.program.specs.Code.{Code, flat, structured}
+use Rattle.program.specs.Code.{Code, structured}
 use Rattle.program.specs.Limits.{entryLimit}
-use Rattle.program.specs.Internal.WellFormed.{WellFormed, depth, Writes}
+use Rattle.program.specs.Internal.WellFormed.{flat, WellFormed, depth, Writes}
 use Rattle.program.proofs.StructureFlat.{structured-flat}
 use Rattle.program.proofs.StructureParse.{read-nested}
 use Rattle.program.proofs.StructureScan.{scan-all}

@@ -12,8 +12,8 @@ use Rattle.program.specs.declared.instruction.Instruction.{Instruction}
 use Rattle.program.specs.declared.instruction.Instruction.the-variants.{Else, Again, End}
 use Rattle.program.specs.declared.instruction.Form.the-variants.{Plain}
 use Rattle.program.specs.Instruction.{formOf}
-use Rattle.program.specs.Code.{Code, done, plain, choice, loop, block, size, flat, elseDistance, structure, structured}
-use Rattle.program.specs.Internal.WellFormed.{WellFormed}
+use Rattle.program.specs.Code.{Code, done, plain, choice, loop, block, size, elseDistance, structure, structured}
+use Rattle.program.specs.Internal.WellFormed.{flat, WellFormed}
 
 -- it has as many instructions as the code's size says
 pub length-flat : (c : Code) → length (flat c) ≡ size c

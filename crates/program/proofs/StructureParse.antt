@@ -17,9 +17,9 @@ use Rattle.program.specs.declared.instruction.Form.the-variants.{Plain}
 use Rattle.program.specs.declared.nesting.Entry.{Entry}
 use Rattle.program.specs.declared.nesting.Entry.the-variants as entry
 use Rattle.program.specs.Instruction.{formOf}
-use Rattle.program.specs.Code.{Code, done, plain, choice, loop, block, size, flat}
+use Rattle.program.specs.Code.{Code, done, plain, choice, loop, block, size}
 use Rattle.program.specs.Limits.{entryLimit}
-use Rattle.program.specs.Internal.WellFormed.{WellFormed, depth, Writes, Passes, Closes, at-code-end, at-else, at-again, at-choice-end, at-block-end, ComesTo, closes, at-plain, at-if, at-while, at-atomic, Parsed, Body, Parser}
+use Rattle.program.specs.Internal.WellFormed.{flat, WellFormed, depth, Writes, Passes, Closes, at-code-end, at-else, at-again, at-choice-end, at-block-end, ComesTo, closes, at-plain, at-if, at-while, at-atomic, Parsed, Body, Parser}
 use Rattle.program.proofs.StructureFlat.{length-flat}
 use Rattle.program.proofs.StructureTurn.{comes-to}
 

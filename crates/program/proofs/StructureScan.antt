@@ -22,9 +22,9 @@ use Rattle.program.specs.declared.nesting.Entry.{Entry}
 use Rattle.program.specs.declared.nesting.Entry.the-variants as entry
 use Rattle.program.specs.Instruction.{formOf}
 use Rattle.program.specs.Nesting.{opened, named, unnamed, opening, passing, atElse, atAgain, atEnd, nest, atCodeEnd, firstBroken}
-use Rattle.program.specs.Code.{Code, done, plain, choice, loop, block, size, flat}
+use Rattle.program.specs.Code.{Code, done, plain, choice, loop, block, size}
 use Rattle.program.specs.Limits.{entryLimit}
-use Rattle.program.specs.Internal.WellFormed.{WellFormed, depth, Beyond}
+use Rattle.program.specs.Internal.WellFormed.{flat, WellFormed, depth, Beyond}
 
 -- ---- a turn of the scan
 

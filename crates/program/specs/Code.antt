@@ -24,14 +24,6 @@ size (choice r a b c) = 1 + size a + 1 + size b + 1 + size c
 size (loop r a c) = 1 + size a + 1 + size c
 size (block a c) = 1 + size a + 1 + size c
 
--- the flat writing, distances computed
-unfoldable pub flat : Code → List Instruction
-flat done = []
-flat (plain i c) = i ∷ flat c
-flat (choice r a b c) = instruction.If r (size a + 1) ∷ flat a ++ (instruction.Else (size b + 1) ∷ flat b ++ (instruction.End ∷ flat c))
-flat (loop r a c) = instruction.While r (size a + 1) ∷ flat a ++ (instruction.Again (size a + 1) ∷ flat c)
-flat (block a c) = instruction.Atomic (size a + 1) ∷ flat a ++ (instruction.End ∷ flat c)
-
 -- the distance of the ELSE at a place
 unfoldable pub elseDistance : Form → ℕ
 elseDistance Plain = 0

@@ -4,10 +4,8 @@ use mathlib.Core.Bool.{Bool, _&&_}
 use mathlib.Core.List.{List}
 use lib.ListN.{length, getD}
 use lib.Dec.{leb, eqb}
-use Rattle.program.specs.Answer.{Answer, fine, refused, _>>=_, _>>_, require}
+use Rattle.program.specs.Answer.{Answer, fine, _>>=_, _>>_, require}
 use Rattle.program.specs.declared.cursor.Cursor.{Cursor}
-use Rattle.program.specs.declared.cursor.Field.{Field}
-use Rattle.program.specs.declared.cursor.Field.the-variants.{Value, Refused}
 use Rattle.program.specs.declared.refusal.Refusal.the-variants.{Missing, Length}
 
 -- the numbers at an offset, of one, two and four bytes
@@ -22,11 +20,6 @@ wordAt s at = pairAt s at * 65536 + pairAt s (at + 2)
 
 abbrev pub cursor : ℕ → Cursor
 cursor at = record { at = at }
-
--- what src/'s enum says: a value and the cursor past it, or the refusal
-abbrev pub fieldAnswer : Field → Answer (ℕ × Cursor)
-fieldAnswer (Value v c) = fine (v, c)
-fieldAnswer (Refused r) = refused r
 
 -- "1: bytes of a field or section missing; D is the file's length": n bytes from the cursor on are there
 unfoldable pub present : List ℕ → Cursor → ℕ → Bool

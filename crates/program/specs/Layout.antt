@@ -5,7 +5,7 @@ use mathlib.Core.Bool.{_&&_}
 use mathlib.Core.List.{List, [], _∷_}
 use lib.ListN.{length, getD}
 use lib.Dec.{leb, eqb}
-use Rattle.program.specs.Answer.{Answer, fine, refused, _>>=_, _>>_, require, requireNone}
+use Rattle.program.specs.Answer.{Answer, fine, _>>=_, _>>_, require, requireNone}
 use Rattle.program.specs.Choice.{firstBad}
 use Rattle.program.specs.Field.{cursor, byteAt, pairAt, byteField, section}
 use Rattle.program.specs.Variable.{Variable, recordAt, variableAt}
@@ -19,8 +19,6 @@ use Rattle.program.specs.declared.found.Found.{Found}
 use Rattle.program.specs.declared.found.Found.the-variants.{Nowhere, At}
 use Rattle.program.specs.declared.instruction.Instruction.{Instruction}
 use Rattle.program.specs.declared.layout.Layout.{Layout}
-use Rattle.program.specs.declared.layout.Reading.{Reading}
-use Rattle.program.specs.declared.layout.Reading.the-variants.{Sound, Refused}
 use Rattle.program.specs.declared.refusal.Refusal.the-variants.{Version, Count, LeftOver, Record, Nesting}
 use Rattle.program.specs.declared.refusal.Refusal.the-variants as refusal
 
@@ -118,8 +116,3 @@ unfoldable pub reading : List ℕ → Answer Layout
 reading s = do
   (instructions, end) ← fields s
   fine (record { locks = byteAt s 1; threads = byteAt s 2; variables = pairAt s 3 / variableSize; instructions = instructions })
-
--- what src/'s enum says
-abbrev pub readingAnswer : Reading → Answer Layout
-readingAnswer (Sound l) = fine l
-readingAnswer (Refused r) = refused r

@@ -4,8 +4,9 @@ ghost use mathlib.Core.Path.{_≡_};
 ghost use Prim.Native.Nat.{_+_, _*_, _≤_, _<_};
 ghost use lib.ListN.{length};
 ghost use lib.Dec.{leb};
-ghost use Rattle.program.specs.Field.{byteAt, pairAt, fieldAnswer, byteField, pairField};
+ghost use Rattle.program.specs.Field.{byteAt, pairAt, byteField, pairField};
 ghost use Rattle.program.specs.Field as Fields;
+ghost use Rattle.program.specs.Internal.Answered.{fieldAnswer};
 
 // The offset of the next byte to read.
 pub struct Cursor {

@@ -20,10 +20,11 @@ use crate::variable::first_bad_record;
 ghost use mathlib.Core.Path.{_≡_};
 ghost use Prim.Native.Nat.{_+_, _/_, _≤_};
 ghost use lib.ListN.{length};
-ghost use Rattle.program.specs.Field.{pairAt, fieldAnswer};
-ghost use Rattle.program.specs.Layout.{variableSection, codeSection, codeSections, reading, readingAnswer};
+ghost use Rattle.program.specs.Field.{pairAt};
+ghost use Rattle.program.specs.Layout.{variableSection, codeSection, codeSections, reading};
 ghost use Rattle.program.specs.Layout as File;
 ghost use Rattle.program.specs.Limits.{threadLimit, instructionSize};
+ghost use Rattle.program.specs.Internal.Answered.{fieldAnswer, readingAnswer};
 
 // The counts of a sound file, by which every section is found.
 pub struct Layout {

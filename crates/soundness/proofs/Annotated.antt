@@ -7,7 +7,8 @@ use Rattle.atomicity.specs.declared.Atomicity.{Atomicity}
 use Rattle.judge.specs.Rules.{Typed}
 use Rattle.judge.specs.declared.lock_set.LockSet.{LockSet}
 use Rattle.program.specs.Access.{accessOf}
-use Rattle.program.specs.Code.{Code, flat}
+use Rattle.program.specs.Code.{Code}
+use Rattle.program.specs.Internal.WellFormed.{flat}
 use Rattle.program.specs.Layout.{Program}
 use Rattle.program.specs.declared.instruction.Instruction.the-variants.{End}
 use Rattle.soundness.specs.Internal.Access.{TakesBelow}

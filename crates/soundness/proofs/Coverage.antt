@@ -19,7 +19,8 @@ use Rattle.judge.specs.Rules.{Typed, typed-done, typed-plain, typed-choice, typ
 use Rattle.judge.specs.declared.lock_set.LockSet.{LockSet}
 use Rattle.machine.specs.Block.{covers, coveredFrom}
 use Rattle.program.proofs.StructureFlat.{length-flat}
-use Rattle.program.specs.Code.{Code, size, flat}
+use Rattle.program.specs.Code.{Code, size}
+use Rattle.program.specs.Internal.WellFormed.{flat}
 use Rattle.program.specs.Instruction.{formOf}
 use Rattle.program.specs.Layout.{Program}
 use Rattle.program.specs.declared.instruction.Form.{Form}

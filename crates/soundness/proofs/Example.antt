@@ -10,31 +10,20 @@ use mathlib.Core.Bool.{Bool, true, false, _&&_}
 use mathlib.Core.List.{List, [], _∷_}
 use lib.ListN.{length, getD}
 use lib.Dec.{T, ltb, ltb→lt, lit<}
-use Rattle.atomicity.specs.Atomicity.{composition, join}
+use mir.Facts.{and-yes}
 use Rattle.program.proofs.Differ.{differ}
 use Rattle.program.specs.Answer.{fine}
-use Rattle.program.specs.Choice.{firstBad}
-use Rattle.program.specs.Field.{present, byteField, pairField, section}
-use Rattle.program.specs.Variable.{recorded, recordAt, variableAt}
-use Rattle.program.specs.Instruction.{decode, decodeAt, formOf}
-use Rattle.program.specs.Nesting.{named, unnamed, opening, passing, atElse, atAgain, atEnd, nest, atCodeEnd, firstBroken}
-use Rattle.program.specs.Layout.{instructionsAt, variablesAt, codesAt, programOf, variableSection, codeSection, codeSections, fields, reading, codeOf}
-use Rattle.program.specs.Code.{size, elseDistance, structure, structured}
-use Rattle.judge.specs.LockSet.{empty, holds, withLock, withoutLock, sameFlags, same}
-use Rattle.judge.specs.Discipline.{kindAt, permits, accessedSet, lockSetAfter, accessAtomicity, accessMover, moverOf, atomicityOf}
-use Rattle.judge.specs.Judging.{isTop, judge, judgeCode, judgeCodes, judgeProgram}
-use Rattle.judge.specs.Acceptance.{sound, accept}
-use Rattle.machine.specs.State.{fresh, start, threadOf}
-use Rattle.program.specs.Access.{accessOf}
-use Rattle.machine.specs.Step.{waits, valueRead, variablesAfter, locksAfter, registersAfter, branch, placeAfter, placeBehind, threadAfter, instructionOf, moveBy, outcome, step}
-use Rattle.machine.specs.Run.{Entries, runFrom, run}
-use Rattle.machine.specs.Block.{covers, coveredFrom, inside, OthersOutside, NobodyInside, UninterruptedFrom, Uninterrupted}
+use Rattle.judge.specs.Acceptance.{accept}
+use Rattle.judge.proofs.Definitions.{judging-definitions}
+use Rattle.machine.specs.Run.{run}
+use Rattle.machine.specs.Block.{NobodyInside, Uninterrupted}
+use Rattle.machine.proofs.Definitions.{running-definitions}
 use Rattle.soundness.specs.Demand.{ThreadsOf, Serialized}
 use Rattle.soundness.specs.Internal.Example.{adder, adders, interleaving, Interrupted, acceptedOf}
 
 -- all definitions open
 unfoldable definitions : Unit {0}
-unfolding composition join firstBad present byteField pairField section recorded recordAt variableAt decode decodeAt formOf named unnamed opening passing atElse atAgain atEnd nest atCodeEnd firstBroken instructionsAt variablesAt codesAt programOf variableSection codeSection codeSections fields reading size elseDistance structure structured empty holds withLock withoutLock sameFlags same kindAt permits accessedSet lockSetAfter accessAtomicity accessMover moverOf atomicityOf isTop judge judgeCode judgeCodes judgeProgram sound accept fresh start codeOf threadOf accessOf waits valueRead variablesAfter locksAfter registersAfter branch placeAfter placeBehind threadAfter instructionOf moveBy outcome step runFrom run covers coveredFrom inside OthersOutside NobodyInside UninterruptedFrom Uninterrupted Entries adder adders interleaving acceptedOf
+unfolding judging-definitions running-definitions adder adders interleaving acceptedOf
 definitions = tt
 
 -- each entry is below n
@@ -44,16 +33,8 @@ allBelow n (t ∷ ts) = ltb t n && allBelow n ts
 
 all-below : (n : ℕ) (ts : List ℕ) → T (allBelow n ts) → (i : ℕ) → i < length ts → getD ts i 0 < n
 all-below n [] h i l = absurd (omega arith)
-all-below n (t ∷ ts) h zero l = ltb→lt t n (first (ltb t n) (allBelow n ts) h)
-  where
-    first : (a b : Bool) → T (a && b) → T a
-    first true b h = tt
-    first false b h = h
-all-below n (t ∷ ts) h (suc i) l = all-below n ts (second (ltb t n) (allBelow n ts) h) i (omega arith)
-  where
-    second : (a b : Bool) → T (a && b) → T b
-    second true b h = h
-    second false b h = absurd h
+all-below n (t ∷ ts) h zero l = ltb→lt t n (and-yes (ltb t n) (allBelow n ts) h .0)
+all-below n (t ∷ ts) h (suc i) l = all-below n ts (and-yes (ltb t n) (allBelow n ts) h .1) i (omega arith)
 
 -- both threads have added 1
 pub adders-sum : run (acceptedOf (accept adders) .program) interleaving .state .variables ≡ 7 ∷ []

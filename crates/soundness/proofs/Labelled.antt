@@ -15,7 +15,8 @@ use lib.Dec.{eqb}
 use Rattle.machine.specs.Step.{placeAfter, placeBehind, branch, reg}
 use Rattle.program.proofs.StructureFlat.{length-flat}
 use Rattle.program.specs.Choice.{choose}
-use Rattle.program.specs.Code.{Code, size, flat}
+use Rattle.program.specs.Code.{Code, size}
+use Rattle.program.specs.Internal.WellFormed.{flat}
 use Rattle.program.specs.Instruction.{formOf}
 use Rattle.program.specs.declared.instruction.Form.{Form}
 use Rattle.program.specs.declared.instruction.Form.the-variants.{Plain}

@@ -13,10 +13,18 @@ use Rattle.program.specs.declared.nesting.Entry.{Entry}
 use Rattle.program.specs.declared.nesting.Entry.the-variants as entry
 use Rattle.program.specs.Instruction.{formOf}
 use Rattle.program.specs.Nesting.{named, firstBroken}
-use Rattle.program.specs.Code.{Code, done, plain, choice, loop, block, size, flat}
+use Rattle.program.specs.Code.{Code, done, plain, choice, loop, block, size}
 use Rattle.program.specs.Limits.{entryLimit}
 
 -- ---- what the theorem states
+
+-- the flat writing, distances computed
+unfoldable pub flat : Code → List Instruction
+flat done = []
+flat (plain i c) = i ∷ flat c
+flat (choice r a b c) = instruction.If r (size a + 1) ∷ flat a ++ (instruction.Else (size b + 1) ∷ flat b ++ (instruction.End ∷ flat c))
+flat (loop r a c) = instruction.While r (size a + 1) ∷ flat a ++ (instruction.Again (size a + 1) ∷ flat c)
+flat (block a c) = instruction.Atomic (size a + 1) ∷ flat a ++ (instruction.End ∷ flat c)
 
 -- each plain instruction is neither an opener nor a closer
 unfoldable pub WellFormed : Code → Type 0

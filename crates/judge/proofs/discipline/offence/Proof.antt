@@ -1,13 +1,13 @@
 -- `offence` meets its contract. Assumes nothing.
 use borrow.Author.Needs.{needs}
-use mathlib.Core.Bool.{true, false}
+use mathlib.Core.Bool.{true, false, not}
 use Rattle.program.specs.Access.{accessOf}
 use Rattle.program.specs.Layout.{programOf}
 use Rattle.program.specs.declared.refusal.Refusal.the-variants.{Access, Taken, NotTaken}
 use Rattle.judge.specs.Discipline.{kindAt, permits, accessedSet, lockSetAfter}
 use Rattle.judge.specs.LockSet.{holds, withLock, withoutLock}
 use Rattle.judge.specs.Internal.Verdicts.{setAfter, setBehind}
-use Rattle.judge.proofs.Verdicts.{judged-choose, judged-not}
+use Rattle.judge.proofs.Verdicts.{judged-require}
 use Rattle.judge.proofs.discipline.offence.Statement.{statement}
 use Rattle.judge.proofs.discipline.offence.Tie as tie
 
@@ -121,7 +121,7 @@ returns-6 c =
     let args = c .before .before .before .before .before .args in
     let i = c .before .before .i .given .0 in
     rw (c .access .ensures, c .before .before .i .given .1)
-    (judged-choose (permits (kindAt (programOf (args .s .now) (args .l)) (i .1 .0)) (args .code) (args .locks) false) (Access (args .d)) (args .locks))
+    (judged-require (permits (kindAt (programOf (args .s .now) (args .l)) (i .1 .0)) (args .code) (args .locks) false) (Access (args .d)) (args .locks))
 
 -- `Instruction::Write(_, v) => access(s, l, code, d, v, locks, true)`
 returns-7 : tie.Need-returns-7
@@ -130,7 +130,7 @@ returns-7 c =
     let args = c .before .before .before .before .before .args in
     let i = c .before .before .i2 .given .0 in
     rw (c .access2 .ensures, c .before .before .i2 .given .1)
-    (judged-choose (permits (kindAt (programOf (args .s .now) (args .l)) (i .1 .0)) (args .code) (args .locks) true) (Access (args .d)) (args .locks))
+    (judged-require (permits (kindAt (programOf (args .s .now) (args .l)) (i .1 .0)) (args .code) (args .locks) true) (Access (args .d)) (args .locks))
 
 -- `Instruction::Take(k) => checked(!locks.holds(k), Refusal::Taken(d))`
 returns-8 : tie.Need-returns-8
@@ -139,7 +139,7 @@ returns-8 c =
     let args = c .before .before .before .before .before .before .args in
     let i = c .before .before .before .i3 .given .0 in
     rw (c .checked .ensures, c .before .holds .ensures, c .before .before .before .i3 .given .1)
-    (judged-not (holds (args .locks) (i .0)) (Taken (args .d)) (withLock (args .locks) (i .0)))
+    (judged-require (not (holds (args .locks) (i .0))) (Taken (args .d)) (withLock (args .locks) (i .0)))
 
 -- `Instruction::Give(k) => checked(locks.holds(k), Refusal::NotTaken(d))`
 returns-9 : tie.Need-returns-9
@@ -148,7 +148,7 @@ returns-9 c =
     let args = c .before .before .before .before .before .before .args in
     let i = c .before .before .before .i4 .given .0 in
     rw (c .checked2 .ensures, c .before .holds2 .ensures, c .before .before .before .i4 .given .1)
-    (judged-choose (holds (args .locks) (i .0)) (NotTaken (args .d)) (withoutLock (args .locks) (i .0)))
+    (judged-require (holds (args .locks) (i .0)) (NotTaken (args .d)) (withoutLock (args .locks) (i .0)))
 
 -- `Instruction::If(_, _) => Verdict::Allowed`
 returns-10 : tie.Need-returns-10

@@ -3,7 +3,7 @@ use borrow.Author.Needs.{needs}
 use native.Mathlib.Omega.{arith}
 use mathlib.Core.Path.{sym, ap, _∙_}
 use Rattle.program.proofs.Sound.{sound-file}
-use Rattle.program.specs.Layout.{readingAnswer}
+use Rattle.program.specs.Internal.Answered.{readingAnswer}
 use Rattle.judge.proofs.Accepting.{report-length-small, read-refused, file-refused, file-accepted}
 use Rattle.judge.proofs.judging.judge_file.Statement.{statement}
 use Rattle.judge.proofs.judging.judge_file.Tie as tie

@@ -1,10 +1,11 @@
 -- `write_thread` meets its contract: the place's bytes, then those of the registers. Assumes nothing.
 use mathlib.Core.Path.{_∙_, sym}
+use mathlib.Core.List.{flatMap}
 use native.Mathlib.Omega.{arith}
 use borrow.Author.Needs.{needs}
 use lib.Seq.{take-all}
 use Rattle.program.specs.Limits.{registerCount}
-use Rattle.machine.specs.State.{each, pairBytes, wordBytes, threadBytes}
+use Rattle.machine.specs.State.{pairBytes, wordBytes, threadBytes}
 use Rattle.program.proofs.Lists.{sets-append}
 use Rattle.machine.proofs.state_bytes.write_thread.Statement.{statement}
 use Rattle.machine.proofs.state_bytes.write_thread.Tie as tie
@@ -32,7 +33,7 @@ returns c =
     let a = c .before .before .before .before .before .before .before .before .before .before .before .args in
     c .before .before .write-words .ensures
     ∙ rw (c .before .before .before .before .before .before .before .before .write-pair .ensures, take-all registerCount (a .th .registers) (omega arith))
-    (sym (sets-append (a .out .now) (a .at) (pairBytes (a .th .place)) (each wordBytes (a .th .registers))))
+    (sym (sets-append (a .out .now) (a .at) (pairBytes (a .th .place)) (flatMap wordBytes (a .th .registers))))
 
 pub write-thread-spec : {M : Type 1} → statement M
 write-thread-spec =

@@ -1,25 +1,26 @@
 -- `write_threads` meets its contract. The invariant: the first i threads are written. Assumes nothing.
 use Prim.Native.Nat.{_-_, _≤_}
 use mathlib.Core.Path.{_≡_, refl, _∙_}
+use mathlib.Core.List.{flatMap}
 use native.Mathlib.Omega.{arith}
 use borrow.Author.Needs.{needs}
 use lib.ListN.{length, take}
 use lib.Seq.{sets}
 use Rattle.program.specs.Limits.{threadLimit, threadSize}
 use Rattle.machine.specs.Internal.Kept.{nobody, EightRegisters}
-use Rattle.machine.specs.State.{each, threadBytes}
+use Rattle.machine.specs.State.{threadBytes}
 use Rattle.machine.proofs.StateBytes.{write-each, length-first-threads}
 use Rattle.machine.proofs.state_bytes.write_threads.Statement.{statement}
 use Rattle.machine.proofs.state_bytes.write_threads.Tie as tie
 
 abbrev Inv-loop : tie.InvT-loop
-Inv-loop out₀ at n threads i₀ out i = (i ≤ n) × (length out ≡ length out₀) × (out ≡ sets out₀ at (each threadBytes (take i threads)))
+Inv-loop out₀ at n threads i₀ out i = (i ≤ n) × (length out ≡ length out₀) × (out ≡ sets out₀ at (flatMap threadBytes (take i threads)))
 
 abbrev μ-loop : tie.MeasureT-loop
 μ-loop out₀ at n threads i₀ out i = n - i
 
 loop-holds : tie.Need-loop-holds Inv-loop μ-loop
-unfolding each
+unfolding flatMap
 loop-holds c = (search needs, refl, refl)
 
 -- `write_thread(out, at + THREAD_SIZE * i, threads[i])`

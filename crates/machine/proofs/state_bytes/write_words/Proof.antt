@@ -1,23 +1,24 @@
 -- `write_words` meets its contract. The invariant: the first i numbers are written. Assumes nothing.
 use Prim.Native.Nat.{_-_, _≤_}
 use mathlib.Core.Path.{_≡_, refl, _∙_}
+use mathlib.Core.List.{flatMap}
 use native.Mathlib.Omega.{arith}
 use borrow.Author.Needs.{needs}
 use lib.ListN.{length, take}
 use lib.Seq.{sets}
-use Rattle.machine.specs.State.{each, wordBytes}
+use Rattle.machine.specs.State.{wordBytes}
 use Rattle.machine.proofs.StateBytes.{write-each, length-first-words}
 use Rattle.machine.proofs.state_bytes.write_words.Statement.{statement}
 use Rattle.machine.proofs.state_bytes.write_words.Tie as tie
 
 abbrev Inv-loop : tie.InvT-loop
-Inv-loop out₀ at n words i₀ out i = (i ≤ n) × (length out ≡ length out₀) × (out ≡ sets out₀ at (each wordBytes (take i words)))
+Inv-loop out₀ at n words i₀ out i = (i ≤ n) × (length out ≡ length out₀) × (out ≡ sets out₀ at (flatMap wordBytes (take i words)))
 
 abbrev μ-loop : tie.MeasureT-loop
 μ-loop out₀ at n words i₀ out i = n - i
 
 loop-holds : tie.Need-loop-holds Inv-loop μ-loop
-unfolding each
+unfolding flatMap
 loop-holds c = (search needs, refl, refl)
 
 -- `write_word(out, at + WORD_SIZE * i, words[i])`

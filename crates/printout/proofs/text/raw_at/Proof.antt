@@ -1,10 +1,11 @@
 -- `raw_at` meets its contract. The invariant: the first i bytes are laid, two digits each. Assumes nothing.
 use mathlib.Core.Path.{_≡_, refl, sym, ap, _∙_}
+use mathlib.Core.List.{flatMap}
 use Prim.Native.Nat.{_+_, _*_, _≤_, _-_}
 use native.Mathlib.Numerals.{add-one}
 use native.Mathlib.Omega.{arith}
 use lib.ListN.{length, length-set}
-use Rattle.printout.specs.Text.{hex, hexes}
+use Rattle.printout.specs.Text.{hex}
 use Rattle.printout.specs.Line.{raw}
 use Rattle.printout.specs.Internal.Writing.{Laid}
 use Rattle.printout.proofs.Stored.{laid-none, laid-same, laid-then, word-ended}
@@ -20,7 +21,7 @@ abbrev μ-loop : tie.MeasureT-loop
 μ-loop out₀ at file from n end next₀ i₀ out next i = n - i
 
 loop-holds : tie.Need-loop-holds Inv-loop μ-loop
-unfolding raw hexes
+unfolding raw flatMap
 loop-holds c = (omega arith, refl, omega arith, laid-none (c .before .before .args .at) (c .before .before .args .out .now))
 
 -- `next = hex_at(out, next, file[from + i])`

@@ -5,12 +5,12 @@ use mathlib.Core.List.{[]}
 use lib.ListN.{length}
 use native.Mathlib.Omega.{arith}
 use borrow.Author.Needs.{needs}
-use Rattle.program.specs.Field.{fieldAnswer}
 use Rattle.program.specs.Instruction.{isValid, decodeAt}
 use Rattle.program.specs.Layout.{codeSection, instructionsAt, offsetFrom}
 use Rattle.program.specs.Limits.{instructionSize, codeSectionLimit}
 use Rattle.program.specs.Nesting.{firstBroken}
 use Rattle.program.specs.declared.cursor.Cursor.{Cursor}
+use Rattle.program.specs.Internal.Answered.{fieldAnswer}
 use Rattle.program.proofs.ReadBack.{section-value}
 use Rattle.program.proofs.Search.{firstBad-nowhere}
 use Rattle.program.proofs.layout.code_section.Statement.{statement}

@@ -4,10 +4,11 @@ use mathlib.Core.Path.{_≡_, sym, ap, _∙_}
 use native.Mathlib.Omega.{arith}
 use borrow.Author.Needs.{needs}
 use Rattle.program.specs.Answer.{fine}
-use Rattle.program.specs.Field.{cursor, fieldAnswer}
+use Rattle.program.specs.Field.{cursor}
 use Rattle.program.specs.Limits.{instructionLimit, codeSectionLimit}
 use Rattle.program.specs.Internal.Bounds.{programLimit}
 use Rattle.program.specs.Layout.{codeSection, codeSections}
+use Rattle.program.specs.Internal.Answered.{fieldAnswer}
 use Rattle.program.proofs.ReadBack.{code-value}
 use Rattle.program.proofs.Sections.{added, added-nothing, added-section, added-refused, added-all}
 use Rattle.program.proofs.layout.code_sections.Statement.{statement}

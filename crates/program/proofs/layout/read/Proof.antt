@@ -4,9 +4,9 @@ use mathlib.Core.Path.{sym, ap, _∙_}
 use lib.ListN.{length}
 use native.Mathlib.Omega.{arith}
 use borrow.Author.Needs.{needs}
-use Rattle.program.specs.Field.{fieldAnswer}
 use Rattle.program.specs.Layout.{reading}
 use Rattle.program.specs.Limits.{recordsStart}
+use Rattle.program.specs.Internal.Answered.{fieldAnswer}
 use Rattle.program.proofs.Sound.{fields-sound}
 use Rattle.program.proofs.layout.read.Statement.{statement}
 use Rattle.program.proofs.layout.read.Tie as tie

@@ -4,10 +4,10 @@ use mathlib.Core.Path.{sym, ap, _∙_}
 use lib.ListN.{length}
 use native.Mathlib.Omega.{arith}
 use borrow.Author.Needs.{needs}
-use Rattle.program.specs.Field.{fieldAnswer}
 use Rattle.program.specs.Layout.{variableSection}
 use Rattle.program.specs.Limits.{variableSize, variableSectionLimit}
 use Rattle.program.specs.declared.cursor.Cursor.{Cursor}
+use Rattle.program.specs.Internal.Answered.{fieldAnswer}
 use Rattle.program.proofs.ReadBack.{section-value}
 use Rattle.program.proofs.layout.variable_section.Statement.{statement}
 use Rattle.program.proofs.layout.variable_section.Tie as tie
