@@ -18,7 +18,7 @@ use Rattle.program.proofs.Contents.{length-variables}
 use Rattle.program.proofs.Sound.{sound-file, instructions-few}
 use Rattle.program.specs.Answer.{fine}
 use Rattle.program.specs.Layout.{Program, programOf, reading}
-use Rattle.program.specs.Limits.{threadLimit, variableLimit, recordOffset, sizeOfState}
+use Rattle.program.specs.Limits.{recordsStart, threadLimit, variableLimit, recordOffset, sizeOfState}
 use Rattle.program.specs.Internal.Bounds.{programLimit}
 use Rattle.program.specs.Internal.Sound.{SoundFile}
 use Rattle.program.specs.declared.layout.Layout.{Layout}
@@ -47,7 +47,7 @@ module _ (s : List ℕ) (l : Layout) where
 
   pub count-variables : length (programOf s l .variables) ≡ l .variables
   unfolding programOf
-  count-variables = length-variables (l .locks) (l .threads) s (l .variables) 5
+  count-variables = length-variables (l .locks) (l .threads) s (l .variables) recordsStart
 
   pub count-locks : programOf s l .locks ≡ l .locks
   unfolding programOf

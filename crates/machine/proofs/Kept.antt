@@ -18,14 +18,14 @@ use lib.Seq.{getD-take, take-set-lt}
 use Rattle.program.specs.Choice.{choose}
 use Rattle.program.specs.Instruction.{decodeAt, decodedInstruction}
 use Rattle.program.specs.Layout.{programOf, codeOf}
-use Rattle.program.specs.Internal.Sound.{FieldsGood}
+use Rattle.program.specs.Internal.Sound.{AccessBelow, FieldsGood}
 use Rattle.program.specs.declared.layout.Layout.{Layout}
 use Rattle.program.specs.declared.instruction.Instruction.{Instruction}
 use Rattle.program.specs.declared.instruction.Instruction.the-variants.{Set, Copy, Add, Sub, Less, Read, Write, Take, Give, If, Else, While, Again, Atomic, End}
 use Rattle.program.proofs.Differ.{differ}
 use Rattle.program.proofs.Lists.{getD-first, getD-set-holds}
 use Rattle.program.proofs.Contents.{length-instructions, getD-instructions}
-use Rattle.program.proofs.Decode.{instruction-fields}
+use Rattle.program.proofs.Decode.{instruction-fields, fields-wider}
 use Rattle.machine.specs.State.{fresh, threadOf}
 use Rattle.program.specs.Access.{Access, none, reads, writes, takes, gives, accessOf}
 use Rattle.program.specs.Limits.{lockLimit, threadLimit, variableLimit, registerCount}
@@ -36,7 +36,7 @@ use Rattle.machine.specs.Internal.Reached.{shared, locksLeft}
 use Rattle.machine.specs.declared.entry.Shared.the-variants.{Waits, Made}
 use Rattle.machine.specs.declared.thread.Thread.{Thread}
 use Rattle.machine.proofs.Outcome.{runFrom-idle, runFrom-waiting, runFrom-moved}
-use Rattle.machine.proofs.Fields.{AccessBelow, access-below, fields-wider, place-inside}
+use Rattle.machine.proofs.Fields.{place-inside}
 
 -- a thread that has not moved is at place 0
 place-fresh : (n t : ℕ) → getD (replicate n fresh) t nobody .place ≡ 0
@@ -203,10 +203,10 @@ module _ (s : List ℕ) (l : Layout) (starts sizes : List ℕ) (prepared : Prepa
 
     -- what the functions that take the instruction ask
     pub fields-below-limits : FieldsGood lockLimit variableLimit i
-    fields-below-limits = fields-wider (l .locks) (l .variables) lockLimit variableLimit (prepared .locks) (prepared .variables) i fields-below-counts
+    fields-below-limits = fields-wider (prepared .locks) (prepared .variables) i fields-below-counts
 
     access-below-counts : AccessBelow (l .locks) (l .variables) (accessOf i)
-    access-below-counts = access-below (l .locks) (l .variables) i fields-below-counts
+    access-below-counts = fields-below-counts .1
 
     pub entry-waiting : (m w d : ℕ) (ts r : List ℕ) → shared (accessOf i) ks vs ≡ Waits
         → runFrom (programOf s l) (record { counts = record { moved = m; waiting = w; idle = d }; state = stateIn l vs ks ths }) (t ∷ ts)
@@ -267,7 +267,7 @@ module _ (s : List ℕ) (l : Layout) (starts sizes : List ℕ) (prepared : Prepa
     registers-after : (x : ℕ) → EightRegisters (set ths t (threadAfter i x (getD ths t nobody)))
     unfolding threadAfter EightRegisters
     registers-after x u k =
-        getD-set-holds (λ _ (th : Thread). length (th .registers) ≡ 8) ths t (threadAfter i x (getD ths t nobody)) nobody
+        getD-set-holds (λ _ (th : Thread). length (th .registers) ≡ registerCount) ths t (threadAfter i x (getD ths t nobody)) nobody
         (length-registers-after i x (getD ths t nobody .registers) ∙ kept .registers t (omega (arith, prepared .threads))) u (kept .registers u k)
 
     pub kept-moved : (x : ℕ) → shared (accessOf i) ks vs ≡ Made x

@@ -20,7 +20,7 @@ use Rattle.program.proofs.Contents.{length-variables}
 use Rattle.program.proofs.Lists.{getD-replicate-same, getD-set-holds, length-flatMap}
 use Rattle.machine.specs.State.{State, start, fresh, threadOf, threadBytes, stateBytes}
 use Rattle.program.specs.Access.{accessOf}
-use Rattle.program.specs.Limits.{registerCount, threadSize, sizeOfState}
+use Rattle.program.specs.Limits.{recordsStart, registerCount, threadSize, sizeOfState}
 use Rattle.machine.specs.Step.{valueRead, threadAfter, instructionOf, moveBy, outcome, after, step}
 use Rattle.machine.specs.Run.{Run, run, runFrom}
 use Rattle.machine.specs.declared.thread.Outcome.{Outcome}
@@ -95,4 +95,4 @@ pub length-end-file : (s : List ℕ) (l : Layout) (ts : List ℕ)
 unfolding programOf
 length-end-file s l ts =
     length-end (programOf s l) ts
-    ∙ rw (length-variables (l .locks) (l .threads) s (l .variables) 5)
+    ∙ rw (length-variables (l .locks) (l .threads) s (l .variables) recordsStart)

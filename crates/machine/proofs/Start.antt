@@ -17,7 +17,7 @@ use lib.ListN.{length, getD, set, take, drop, replicate, length-map, List·getD-
 use lib.Seq.{take-suc, take-suc-set, getD-drop, drop-drop, getD-set-same, getD-set-other}
 use Rattle.program.specs.Field.{wordAt}
 use Rattle.program.specs.Layout.{CodeSection, programOf, codeOf, variablesAt, codesAt, instructionsAt}
-use Rattle.program.specs.Limits.{lockLimit, threadLimit, recordOffset}
+use Rattle.program.specs.Limits.{recordsStart, lockLimit, threadLimit, recordOffset}
 use Rattle.program.specs.Internal.Sound.{SoundFile, SoundSection, SoundSections, countAt}
 use Rattle.program.specs.Variable.{Variable, variableAt}
 use Rattle.program.specs.declared.layout.Layout.{Layout}
@@ -33,14 +33,14 @@ module _ (s : List ℕ) (l : Layout) where
   pub length-initial : length (start (programOf s l) .variables) ≡ l .variables
   unfolding start programOf
   length-initial =
-      length-map (variablesAt (l .locks) (l .threads) s (l .variables) 5) (λ (v : Variable). v .initial)
-      ∙ length-variables (l .locks) (l .threads) s (l .variables) 5
+      length-map (variablesAt (l .locks) (l .threads) s (l .variables) recordsStart) (λ (v : Variable). v .initial)
+      ∙ length-variables (l .locks) (l .threads) s (l .variables) recordsStart
 
   pub initial-value : (i : ℕ) → i < l .variables → getD (start (programOf s l) .variables) i 0 ≡ wordAt s (recordOffset i + 2)
   unfolding start programOf variableAt
   initial-value i h =
-      List·getD-map (λ (v : Variable). v .initial) (variablesAt (l .locks) (l .threads) s (l .variables) 5) i (record { kind = Open; initial = 0 })
-      ∙ ap (λ (v : Variable). v .initial) (getD-variables (l .locks) (l .threads) s (l .variables) 5 i (record { kind = Open; initial = 0 }) h)
+      List·getD-map (λ (v : Variable). v .initial) (variablesAt (l .locks) (l .threads) s (l .variables) recordsStart) i (record { kind = Open; initial = 0 })
+      ∙ ap (λ (v : Variable). v .initial) (getD-variables (l .locks) (l .threads) s (l .variables) recordsStart i (record { kind = Open; initial = 0 }) h)
 
   -- a turn of the loop that fills an array with them
   pub initial-next : (vs : List ℕ) (i : ℕ) → i < l .variables → i < length vs

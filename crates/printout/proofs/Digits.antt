@@ -4,7 +4,7 @@
 --     decimal-length                how many digits a number below a power of ten has
 --     decimal-small, decimal-large  a number in decimal, by its last digit
 --     decimal-large-length          it has one digit more than its tenth
-use mathlib.Core.Path.{_≡_, refl, sym, ap, _∙_}
+use mathlib.Core.Path.{_≡_, sym, ap, _∙_}
 use mathlib.Core.Logic.{_⊎_, inl, inr, ⊎-elim}
 use mathlib.Core.List.{List, [], _∷_, _++_, flatMap, append-nil}
 use Prim.Native.Nat.{ℕ, zero, suc, _+_, _/_, _%_, _^_, _≤_, _<_}

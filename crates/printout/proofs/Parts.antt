@@ -31,7 +31,7 @@ use lib.ListN.{length, getD, drop, length-append, List·getD-append}
 use lib.Seq.{getD-append-add, getD-drop, drop-drop}
 use Rattle.program.specs.Instruction.{decodeAt, decodedInstruction}
 use Rattle.program.specs.Layout.{CodeSection, instructionsAt, codesAt, variablesAt, programOf}
-use Rattle.program.specs.Limits.{recordOffset}
+use Rattle.program.specs.Limits.{recordsStart, recordOffset}
 use Rattle.program.specs.Internal.Bounds.{programLimit, lineCount}
 use Rattle.program.specs.Internal.Sound.{SoundSection, SoundSections, SoundFile, countAt}
 use Rattle.program.specs.Variable.{Variable, variableAt}
@@ -233,12 +233,12 @@ module _ (s : List ℕ) (l : Layout) (report : List ℕ) where
   lines-parts : lines s (programOf s l) report ≡ headLines s (l .variables) ++ (variableLines s 0 (programOf s l .variables) ++ itemLines s l report)
   unfolding lines variablesLine headLines itemLines programOf
   lines-parts =
-      rw (length-variables (l .locks) (l .threads) s (l .variables) 5)
+      rw (length-variables (l .locks) (l .threads) s (l .variables) recordsStart)
       (ap (λ (xs : List (List ℕ)). headLines s (l .variables) ++ xs) (append-assoc (variableLines s 0 (programOf s l .variables)) (sectionLines s 0 (programOf s l .codes) report) (wholeLines 0 (programOf s l .codes) report)))
 
   length-variable-part : length (variableLines s 0 (programOf s l .variables)) ≡ l .variables
   unfolding programOf
-  length-variable-part = length-variable-lines s 0 (programOf s l .variables) ∙ length-variables (l .locks) (l .threads) s (l .variables) 5
+  length-variable-part = length-variable-lines s 0 (programOf s l .variables) ∙ length-variables (l .locks) (l .threads) s (l .variables) recordsStart
 
   -- a line of the head
   pub line-head : (i : ℕ) → i < 4 → getD (lines s (programOf s l) report) i [] ≡ getD (headLines s (l .variables)) i []
@@ -259,13 +259,13 @@ module _ (s : List ℕ) (l : Layout) (report : List ℕ) where
       → getD (lines s (programOf s l) report) (4 + v) [] ≡ variableLine s v (variableAt (l .locks) (l .threads) s (recordOffset v))
   unfolding programOf
   line-variable v h =
-      let xs : List Variable = variablesAt (l .locks) (l .threads) s (l .variables) 5 in
+      let xs : List Variable = variablesAt (l .locks) (l .threads) s (l .variables) recordsStart in
       let d : Variable = variableAt (l .locks) (l .threads) s 0 in
       past-head v
       ∙ List·getD-append (variableLines s 0 (programOf s l .variables)) (itemLines s l report) [] v (omega (arith, length-variable-part))
-      ∙ getD-variable-lines s 0 xs d v (omega (arith, length-variables (l .locks) (l .threads) s (l .variables) 5))
+      ∙ getD-variable-lines s 0 xs d v (omega (arith, length-variables (l .locks) (l .threads) s (l .variables) recordsStart))
       ∙ ap (λ (n : ℕ). variableLine s n (getD xs v d)) (zero-add v)
-      ∙ ap (variableLine s v) (getD-variables (l .locks) (l .threads) s (l .variables) 5 v d h)
+      ∙ ap (variableLine s v) (getD-variables (l .locks) (l .threads) s (l .variables) recordsStart v d h)
 
   -- one after those
   pub line-item : (j : ℕ) → getD (lines s (programOf s l) report) (4 + (l .variables + j)) [] ≡ getD (itemLines s l report) j []

@@ -2,6 +2,7 @@
 --     getD-any         an element that is there, whatever stands for none
 --     getD-first       ... of the first n
 --     getD-set-holds   a property of the element at each index, kept by a store of one that has it there
+--     getD-set-self    an element set to what stands for none, there or not
 --     take-rest, drop-rest
 --                      the rest from a position on, taken whole: all of it, and nothing behind
 --     take-replicate, getD-replicate-same
@@ -43,6 +44,11 @@ module _ {A : Type 0} where
   getD-set-holds P (b ∷ l) zero a d h (suc j) k = k
   getD-set-holds P (b ∷ l) (suc i) a d h zero k = k
   getD-set-holds P (b ∷ l) (suc i) a d h (suc j) k = getD-set-holds (λ n. P (suc n)) l i a d h j k
+
+  pub getD-set-self : (l : List A) (i : ℕ) (a : A) → getD (set l i a) i a ≡ a
+  getD-set-self [] i a = refl
+  getD-set-self (b ∷ l) zero a = refl
+  getD-set-self (b ∷ l) (suc i) a = getD-set-self l i a
 
   pub take-rest : (at : ℕ) (l : List A) → take (length l - at) (drop at l) ≡ drop at l
   take-rest at l = take-all (length l - at) (drop at l) (omega (arith, length-drop at l))

@@ -92,7 +92,7 @@ threads-sound s locks threads m e k h =
         some-thread = leb-true 1 threads (t .0);
         few-threads = leb-true threads threadLimit (t .1);
         section = v .head;
-        records = firstBad-nowhere (λ p. Variable.isValid (recordAt locks threads s p)) 6 (x .0) 5 (v .valid);
+        records = firstBad-nowhere (λ p. Variable.isValid (recordAt locks threads s p)) variableSize (x .0) recordsStart (v .valid);
         sections = rw (past, m-is) at (sections-sound locks (x .0) s threads (x .1) (y .0) (y .1) e₃ end);
       },
     )

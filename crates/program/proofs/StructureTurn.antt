@@ -4,7 +4,7 @@
 --     turn-else, turn-again, turn-end   at each closer: of all entries one only passes
 --     comes-to                          all of them
 use Prim.Native.Nat.{ℕ, suc, _+_, _<_}
-use mathlib.Core.Bool.{Bool, true, false, _&&_, not}
+use mathlib.Core.Bool.{Bool, true, false, _&&_, not, and-eq-true-iff}
 use mathlib.Core.Path.{_≡_, refl}
 use mathlib.Core.List.{List, [], _∷_}
 use lib.ListN.{length}
@@ -35,15 +35,6 @@ tested : (p : ℕ) (b : Bool) (es : List Entry) (rest : List Entry → Found) �
 tested p true es rest h = (refl, h)
 tested p false es rest h = at≢nowhere h
 
--- both of two tests hold
-and-left : (a b : Bool) → (a && b) ≡ true → a ≡ true
-and-left true b h = refl
-and-left false b h = h
-
-and-right : (a b : Bool) → (a && b) ≡ true → b ≡ true
-and-right true b h = h
-and-right false b h = cc
-
 -- ---- turns
 
 module _ (p : ℕ) (is : List Instruction) (es : List Entry) where
@@ -57,7 +48,7 @@ module _ (p : ℕ) (is : List Instruction) (es : List Entry) where
   unfolding opening
   turn-open n e h =
       let t = tested p (unnamed p es && not (eqb n 0) && ltb (length es) entryLimit) (e ∷ es) (firstBroken (suc p) is) h in
-      (ltb-true (length es) entryLimit (and-right (unnamed p es && not (eqb n 0)) (ltb (length es) entryLimit) (t .0)), t .1)
+      (ltb-true (length es) entryLimit (and-eq-true-iff (unnamed p es && not (eqb n 0)) (ltb (length es) entryLimit) .0 (t .0) .1), t .1)
 
 module _ (p : ℕ) (is : List Instruction) where
   -- at each closer: of all entries one only passes
@@ -66,7 +57,7 @@ module _ (p : ℕ) (is : List Instruction) where
   turn-else n [] h = at≢nowhere h
   turn-else n (entry.Then w ∷ es) h =
       let t = tested p (eqb w p && not (eqb n 0)) (entry.Else (p + n) ∷ es) (firstBroken (suc p) is) h in
-      let e = eqb-true w p (and-left (eqb w p) (not (eqb n 0)) (t .0)) in
+      let e = eqb-true w p (and-eq-true-iff (eqb w p) (not (eqb n 0)) .0 (t .0) .0) in
       at-else e (rw (← e) at (t .1))
   turn-else n (entry.Else w ∷ es) h = at≢nowhere h
   turn-else n (entry.Loop w m ∷ es) h = at≢nowhere h
@@ -79,8 +70,9 @@ module _ (p : ℕ) (is : List Instruction) where
   turn-again n (entry.Else w ∷ es) h = at≢nowhere h
   turn-again n (entry.Loop w m ∷ es) h =
       let t = tested p (eqb w p && not (eqb n 0) && eqb n m) es (firstBroken (suc p) is) h in
-      let e = eqb-true w p (and-left (eqb w p) (not (eqb n 0)) (and-left (eqb w p && not (eqb n 0)) (eqb n m) (t .0))) in
-      rw (← (eqb-true n m (and-right (eqb w p && not (eqb n 0)) (eqb n m) (t .0)))) (at-again e (rw (← e) at (t .1)))
+      let (first, distances) = and-eq-true-iff (eqb w p && not (eqb n 0)) (eqb n m) .0 (t .0) in
+      let e = eqb-true w p (and-eq-true-iff (eqb w p) (not (eqb n 0)) .0 first .0) in
+      rw (← (eqb-true n m distances)) (at-again e (rw (← e) at (t .1)))
   turn-again n (entry.Block w ∷ es) h = at≢nowhere h
 
   turn-end : (es : List Entry) → goOn p (atEnd p es) (firstBroken (suc p) is) ≡ Nowhere → Closes p (End ∷ is) es

@@ -1,6 +1,6 @@
 -- Structured code: what well nested code is the flat writing of (document 01, "The file", "Atomicities": sequence, IF, WHILE, ATOMIC).
 use Prim.Native.Nat.{ℕ, zero, suc, _+_, _-_}
-use mathlib.Core.List.{List, [], _∷_, _++_}
+use mathlib.Core.List.{List, [], _∷_}
 use lib.ListN.{length, getD, take, drop}
 use Rattle.program.specs.declared.instruction.Instruction.{Instruction}
 use Rattle.program.specs.declared.instruction.Instruction.the-variants as instruction

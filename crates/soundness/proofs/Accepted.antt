@@ -1,5 +1,5 @@
--- What an accepted file's program is: each thread's code is well nested and takes only locks that there are (`sound-nested`), and is
--- typed, so annotated (`judged-annotated`). Assumes nothing.
+-- What an accepted file's program is: each thread's code is well nested and names only locks and variables that there are
+-- (`sound-nested`), and is typed, so annotated (`judged-annotated`). Assumes nothing.
 use Prim.Native.Nat.{ℕ, zero, suc, _+_, _*_, _≤_, _<_}
 use native.Mathlib.Decide.{decLt}
 use native.Mathlib.Nat.{add-zero, zero-add}
@@ -11,29 +11,28 @@ use lib.ListN.{length, getD, List·getD-eq-default}
 use Rattle.judge.specs.Judging.{judge, judgeCode, judgeCodes, judgeProgram}
 use Rattle.judge.specs.LockSet.{empty}
 use Rattle.program.specs.Access.{accessOf}
-use Rattle.program.proofs.Contents.{length-instructions, getD-instructions}
+use Rattle.program.proofs.Contents.{length-instructions, getD-instructions, length-variables}
 use Rattle.program.proofs.Decode.{instruction-fields}
 use Rattle.program.proofs.Structure.{nested-flat}
 use Rattle.program.specs.Answer.{fine}
 use Rattle.program.specs.Code.{structure, structured}
-use Rattle.program.specs.Instruction.{decodeAt, decodedInstruction}
 use Rattle.program.specs.Layout.{Program, CodeSection, programOf, instructionsAt, codesAt, codeOf}
-use Rattle.program.specs.Limits.{recordOffset}
+use Rattle.program.specs.Limits.{recordsStart, recordOffset}
 use Rattle.program.specs.Nesting.{firstBroken, atCodeEnd}
-use Rattle.program.specs.Internal.Sound.{FieldsGood, SoundFile, SoundSection, SoundSections, countAt}
+use Rattle.program.specs.Internal.Sound.{AccessBelow, SoundFile, SoundSection, SoundSections, countAt}
 use Rattle.program.specs.Internal.WellFormed.{WellFormed, Writes}
 use Rattle.program.specs.declared.instruction.Instruction.{Instruction}
-use Rattle.program.specs.declared.instruction.Instruction.the-variants.{Set, Copy, Add, Sub, Less, Read, Write, Take, Give, If, Else, While, Again, Atomic, End}
+use Rattle.program.specs.declared.instruction.Instruction.the-variants.{End}
 use Rattle.program.specs.declared.layout.Layout.{Layout}
-use Rattle.soundness.specs.Internal.Access.{TakesBelow}
+use Rattle.soundness.specs.Internal.Access.{AccessesBelow}
 use Rattle.soundness.specs.Internal.Instance.{Annotated, ThreadsAnnotated}
 use Rattle.judge.specs.Rules.{typed-done}
-use Rattle.soundness.specs.Internal.WellNested.{noSection, TakesGood, WellNested, Derived}
+use Rattle.soundness.specs.Internal.WellNested.{noSection, WellNested, Derived}
 use Rattle.soundness.proofs.Annotated.{annotated}
 use Rattle.judge.proofs.Rules.{judge-typed}
 use Rattle.program.proofs.Answer.{bind-inv}
 
--- ---- from the file: nesting, and the locks taken
+-- ---- from the file: nesting, and the locks and variables named
 
 -- what holds of no code and of every section holds of every thread's code
 module _ (P : List Instruction → Type 0) (none : P []) (s : List ℕ) (locks variables : ℕ)
@@ -44,48 +43,34 @@ module _ (P : List Instruction → Type 0) (none : P []) (s : List ℕ) (locks v
   section-code (suc n) at m h zero = each at (h .1)
   section-code (suc n) at m h (suc t) = section-code n (at + 2 + 4 * countAt s at) (h .0) (h .3) t
 
-takes-good : (locks variables : ℕ) (i : Instruction) → FieldsGood locks variables i → TakesBelow locks (accessOf i)
-unfolding accessOf TakesBelow
-takes-good k v (Set a n) h = tt
-takes-good k v (Copy a b) h = tt
-takes-good k v (Add a b c) h = tt
-takes-good k v (Sub a b c) h = tt
-takes-good k v (Less a b c) h = tt
-takes-good k v (Read a w) h = tt
-takes-good k v (Write a w) h = tt
-takes-good k v (Take l) h = h
-takes-good k v (Give l) h = tt
-takes-good k v (If a n) h = tt
-takes-good k v (Else n) h = tt
-takes-good k v (While a n) h = tt
-takes-good k v (Again n) h = tt
-takes-good k v (Atomic n) h = tt
-takes-good k v End h = tt
-
-takes-at : (locks variables : ℕ) (s : List ℕ) (n at : ℕ) → TakesGood locks (instructionsAt locks variables s n at)
-takes-at locks variables s n at q = dite (decLt q n)
+-- the accesses of a section's instructions, and of END behind them
+accesses-at : (locks variables : ℕ) (s : List ℕ) (n at q : ℕ) → AccessBelow locks variables (accessOf (getD (instructionsAt locks variables s n at) q End))
+unfolding accessOf
+accesses-at locks variables s n at q = dite (decLt q n)
     (λ (h : q < n).
-    subst (λ (i : Instruction). TakesBelow locks (accessOf i)) (sym (getD-instructions locks variables s n at q h))
-    (takes-good locks variables (decodedInstruction (decodeAt locks variables s (at + 4 * q))) (instruction-fields locks variables s (at + 4 * q))))
+    subst (λ (i : Instruction). AccessBelow locks variables (accessOf i)) (sym (getD-instructions locks variables s n at q h))
+    (instruction-fields locks variables s (at + 4 * q) .1))
     (λ (k : ¬ (q < n)).
     let out : length (instructionsAt locks variables s n at) ≤ q = omega (arith, length-instructions locks variables s n at) in
-    subst (λ (i : Instruction). TakesBelow locks (accessOf i)) (sym (List·getD-eq-default (instructionsAt locks variables s n at) End out))
-    (takes-good locks variables End tt))
+    subst (λ (i : Instruction). AccessBelow locks variables (accessOf i)) (sym (List·getD-eq-default (instructionsAt locks variables s n at) End out)) tt)
 
 writes-nothing : Writes [] (structured [])
 unfolding firstBroken atCodeEnd
 writes-nothing = nested-flat [] refl
 
 pub sound-nested : (s : List ℕ) (l : Layout) → SoundFile s l → WellNested (programOf s l)
-unfolding programOf codeOf
-sound-nested s l h = record {
-  writes = λ t. section-code (λ (is : List Instruction). Writes is (structured is)) writes-nothing s (l .locks) (l .variables)
-      (λ at x. nested-flat (instructionsAt (l .locks) (l .variables) s (countAt s at) (at + 2)) (x .nested))
-      (l .threads) (recordOffset (l .variables)) (l .instructions) (h .sections) t;
-  takes = λ t. section-code (TakesGood (l .locks)) (λ q. takes-good (l .locks) (l .variables) End tt) s (l .locks) (l .variables)
-      (λ at x. takes-at (l .locks) (l .variables) s (countAt s at) (at + 2))
-      (l .threads) (recordOffset (l .variables)) (l .instructions) (h .sections) t;
-}
+unfolding programOf codeOf accessOf
+sound-nested s l h =
+    let count : l .variables ≡ length (programOf s l .variables) = sym (length-variables (l .locks) (l .threads) s (l .variables) recordsStart) in
+    record {
+      writes = λ t. section-code (λ (is : List Instruction). Writes is (structured is)) writes-nothing s (l .locks) (l .variables)
+          (λ at x. nested-flat (instructionsAt (l .locks) (l .variables) s (countAt s at) (at + 2)) (x .nested))
+          (l .threads) (recordOffset (l .variables)) (l .instructions) (h .sections) t;
+      accesses = λ t. section-code (AccessesBelow (programOf s l)) (λ q. tt) s (l .locks) (l .variables)
+          (λ at x q. subst (λ (v : ℕ). AccessBelow (l .locks) v (accessOf (getD (instructionsAt (l .locks) (l .variables) s (countAt s at) (at + 2)) q End))) count
+          (accesses-at (l .locks) (l .variables) s (countAt s at) (at + 2) q))
+          (l .threads) (recordOffset (l .variables)) (l .instructions) (h .sections) t;
+    }
 
 -- ---- from judging: derivations
 
@@ -120,4 +105,4 @@ derived p e t w = subst (λ (m : ℕ). Derived p m (getD (p .codes) t noSection 
 pub judged-annotated : (p : Program) {r : List ℕ} → WellNested p → judgeProgram p ≡ fine r → ThreadsAnnotated p
 judged-annotated p n e t =
     let (_, _, d) = derived p e t (n .writes t .well-formed) in
-    subst (Annotated p t empty) (n .writes t .flat-is) (annotated d (subst (TakesGood (p .locks)) (sym (n .writes t .flat-is)) (n .takes t)))
+    subst (Annotated p t empty) (n .writes t .flat-is) (annotated d (subst (AccessesBelow p) (sym (n .writes t .flat-is)) (n .accesses t)))

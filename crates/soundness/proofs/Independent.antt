@@ -20,9 +20,10 @@ use Rattle.program.proofs.Differ.{differ}
 use Rattle.program.specs.Access.{Access, none, reads, writes, takes, gives}
 use Rattle.machine.specs.Step.{waits, valueRead, variablesAfter, locksAfter}
 use Rattle.program.specs.Layout.{Program}
+use Rattle.program.specs.Internal.Sound.{AccessBelow}
 use Rattle.program.specs.declared.variable.Kind.{Kind}
 use Rattle.program.specs.declared.variable.Kind.the-variants.{Guarded, Own, Fixed, Open}
-use Rattle.soundness.specs.Internal.Access.{Permitted, read-permitted, write-permitted, give-permitted, TakesBelow, Owns, NoLock, NoVariable, Independent, Swaps, right-first, left-second}
+use Rattle.soundness.specs.Internal.Access.{Permitted, read-permitted, write-permitted, give-permitted, Owns, NoLock, NoVariable, Independent, Swaps, right-first, left-second}
 use Rattle.soundness.proofs.Owns.{take-free}
 
 -- ---- pairs that are independent
@@ -195,9 +196,9 @@ module _ (p : Program) {t u : ℕ} (different : t ≢ u) {s s′ : LockSet} {ks 
 
   -- ---- all pairs
 
-  pub independent : (x y : Access) → Permitted p t s x → Permitted p u s′ y → TakesBelow (length ks) x
+  pub independent : (x y : Access) → Permitted p t s x → Permitted p u s′ y → AccessBelow (length ks) (length (p .variables)) x
       → waits x ks ≡ false → waits y (locksAfter x t ks) ≡ false → Swaps (accessMover p t s x) (accessMover p u s′ y) → Independent x y
-  unfolding accessMover TakesBelow
+  unfolding accessMover
   independent none y h h′ b f f′ m = independent-none y
   independent (reads v) none h h′ b f f′ m = independent-sym (independent-none (reads v))
   independent (reads v) (reads w) h h′ b f f′ m = read-read v w

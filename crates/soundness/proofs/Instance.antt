@@ -25,7 +25,7 @@ use Rattle.soundness.specs.Naming.{Move, Named, blockName, moveOf, moved
 use Rattle.soundness.specs.Internal.Prefix.{outer, statusOf, isInner, Goes}
 use Rattle.soundness.proofs.Commute.{instruction-other, outcome-other, block-other, move-other, moved-named-comm}
 use Rattle.soundness.proofs.Independent.{independent}
-use Rattle.soundness.proofs.Move.{moved-waits, label-other, in-finished, goes, permitted, takes-below, invariant-moved}
+use Rattle.soundness.proofs.Move.{moved-waits, label-other, in-finished, goes, permitted, access-below, invariant-moved}
 use Rattle.soundness.proofs.Prefix.{goes-right, goes-left, goes-committed, not-outside-inner}
 
 module _ (p : Program) (A : ThreadsAnnotated p) where
@@ -61,7 +61,7 @@ module _ (p : Program) (A : ThreadsAnnotated p) where
     unfolding moverOf
     apart =
         independent p n (inv .owns t) (inv .owns u) (nextAccess p g t) (nextAccess p g u)
-        (permitted p A inv t t-is e) permitted-second (takes-below p A inv t t-is e) (moved-waits p t (g .machine) e) waits-second m
+        (permitted p A inv t t-is e) permitted-second (access-below p A inv t t-is e) (moved-waits p t (g .machine) e) waits-second m
 
     swap : Swapped p g t u
     unfolding movedNamed moved

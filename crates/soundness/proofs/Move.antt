@@ -4,36 +4,37 @@
 --     thread-other, place-other, label-other
 --                                       the others, and where they stand
 --     in-threads, in-finished           a thread of the program is one of the state's
---     goes, permitted, takes-below      what the invariant says of its mover, its lock set, its TAKE
+--     goes, permitted, access-below     what the invariant says of its mover, its lock set, its lock or variable
 --     invariant-moved                   the invariant holds afterwards
-use Prim.Native.Nat.{ℕ, _+_, _≤_, _<_}
+use Prim.Native.Nat.{ℕ, _≤_, _<_}
 use native.Mathlib.Decide.{ℕ-discrete}
 use native.Mathlib.Omega.{arith}
 use borrow.Author.Tests.{eqb-false}
 use mathlib.Core.Path.{_≡_, refl, sym, ap, _∙_, subst}
 use mathlib.Core.Logic.{_≢_, Ne·symm, dite}
 use mathlib.Core.Bool.{Bool, true, false}
-use mathlib.Core.List.{List, []}
 use lib.ListN.{length, length-set}
 use lib.Seq.{getD-set-same, getD-set-other}
 use lib.Dec.{eqb}
 use Rattle.judge.specs.declared.lock_set.LockSet.{LockSet}
 use Rattle.machine.specs.State.{State, threadOf, fresh}
 use Rattle.program.proofs.Differ.{differ}
-use Rattle.program.specs.Access.{Access, none, reads, writes, takes, gives, accessOf}
+use Rattle.program.specs.Access.{accessOf}
 use Rattle.machine.specs.Step.{waits, valueRead, locksAfter, placeAfter, threadAfter, instructionOf, moveBy, outcome}
 use Rattle.machine.specs.declared.thread.Outcome.the-variants.{Moved, Waiting, Idle}
 use Rattle.machine.specs.declared.thread.Thread.{Thread}
 use Rattle.program.specs.Choice.{choose}
 use Rattle.program.specs.Layout.{Program, codeOf}
+use Rattle.program.specs.Internal.Sound.{AccessBelow}
 use Rattle.program.specs.declared.instruction.Instruction.{Instruction}
-use Rattle.soundness.specs.Internal.Access.{Permitted, TakesBelow, Owns}
+use Rattle.soundness.specs.Internal.Access.{Permitted, Owns}
 use Rattle.soundness.specs.Internal.Flow.{Label, Follows}
 use Rattle.soundness.specs.Internal.Labelled.{Arrives}
 use Rattle.soundness.specs.Internal.Instance.{ThreadsAnnotated, nextInstruction, nextAccess, placeOf, labelOf, rowOf, nextMover, Invariant}
 use Rattle.soundness.specs.Naming.{Named, moved, movedNamed}
 use Rattle.soundness.specs.Internal.Prefix.{outer, proper-outer, Goes}
 use Rattle.judge.specs.Rules.{Legal}
+use Rattle.machine.proofs.Kept.{length-locks-after}
 use Rattle.soundness.proofs.Access.{legal-permitted, legal-set}
 use Rattle.soundness.proofs.Owns.{owns-moved, owns-other}
 
@@ -74,14 +75,6 @@ module _ (i : Instruction) (t : ℕ) (s : State) where
   pub thread-other : (u : ℕ) → u ≢ t → threadOf (moveBy i t s) u ≡ threadOf s u
   unfolding threadOf moveBy
   thread-other u n = getD-set-other (s .threads) t u _ fresh n
-
-length-locks : (x : Access) (t : ℕ) (ks : List ℕ) → length (locksAfter x t ks) ≡ length ks
-unfolding locksAfter
-length-locks none t ks = refl
-length-locks (reads v) t ks = refl
-length-locks (writes v a) t ks = refl
-length-locks (takes k) t ks = length-set ks k (t + 1)
-length-locks (gives k) t ks = length-set ks k 0
 
 -- ---- a move under the invariant
 
@@ -127,14 +120,14 @@ module _ (p : Program) (A : ThreadsAnnotated p) where
     pub permitted : Permitted p t (labelOf p A g t .locks) (nextAccess p g t)
     permitted = legal-permitted (nextInstruction p g t) legal
 
-    pub takes-below : TakesBelow (length (g .machine .locks)) (nextAccess p g t)
+    pub access-below : AccessBelow (length (g .machine .locks)) (length (p .variables)) (nextAccess p g t)
     unfolding instructionOf
-    takes-below = subst (λ (n : ℕ). TakesBelow n (nextAccess p g t)) (sym (inv .lock-count)) (A t .takes-below (placeOf p A g t))
+    access-below = subst (λ (n : ℕ). AccessBelow n (length (p .variables)) (nextAccess p g t)) (sym (inv .lock-count)) (A t .accesses (placeOf p A g t))
 
     owns-mine : Owns t (labelOf p A (movedNamed p t g) t .locks) (locksAfter (nextAccess p g t) t (g .machine .locks))
     owns-mine =
         subst (λ (s : LockSet). Owns t s (locksAfter (nextAccess p g t) t (g .machine .locks))) (legal-set (nextInstruction p g t) legal)
-        (owns-moved (inv .owns t) (nextAccess p g t) permitted takes-below)
+        (owns-moved (inv .owns t) (nextAccess p g t) permitted access-below)
 
     -- the invariant holds afterwards
     pub invariant-moved : Invariant p A (movedNamed p t g)
@@ -148,7 +141,7 @@ module _ (p : Program) (A : ThreadsAnnotated p) where
       places = λ u. dite (ℕ-discrete u t)
           (λ (same : u ≡ t). subst (λ (v : ℕ). placeOf p A (movedNamed p t g) v ≤ length (codeOf p v)) (sym same) (arrives .within))
           (λ (n : u ≢ t). omega (arith, place-other g t u n, inv .places u));
-      lock-count = length-locks (nextAccess p g t) t (g .machine .locks) ∙ inv .lock-count;
+      lock-count = length-locks-after (nextAccess p g t) t (g .machine .locks) ∙ inv .lock-count;
       thread-count = length-set (g .machine .threads) t _ ∙ inv .thread-count;
       finished-count = length-set (g .finished) t _ ∙ inv .finished-count;
     }

@@ -2,46 +2,41 @@
 --     take-free    a lock that a TAKE may take is free
 --     owns-moved   the thread that moves holds what its lock set says afterwards
 --     owns-other   every other thread holds what it held
-use Prim.Native.Nat.{ℕ, _+_, _≤_, _<_}
-use native.Mathlib.Decide.{ℕ-discrete, decLt}
+use Prim.Native.Nat.{ℕ, _+_}
+use native.Mathlib.Decide.{ℕ-discrete}
 use native.Mathlib.Omega.{arith}
 use borrow.Author.Tests.{eqb-true, not-false}
 use mathlib.Core.Path.{_≡_, sym, _∙_, subst}
 use mathlib.Core.Logic.{_≢_, dite}
 use mathlib.Core.Bool.{Bool, true, false}
 use mathlib.Core.List.{List}
-use lib.ListN.{length, getD, set, length-set, List·getD-eq-default}
+use lib.ListN.{length, getD, set}
 use lib.Seq.{getD-set-same, getD-set-other}
 use lib.Dec.{eqb}
 use Rattle.judge.specs.LockSet.{holds, withLock, withoutLock}
 use Rattle.judge.specs.declared.lock_set.LockSet.{LockSet}
 use Rattle.program.proofs.Differ.{differ}
+use Rattle.program.proofs.Lists.{getD-set-self}
 use Rattle.program.specs.Access.{Access, none, reads, writes, takes, gives}
 use Rattle.machine.specs.Step.{waits, locksAfter}
 use Rattle.program.specs.Layout.{Program}
+use Rattle.program.specs.Internal.Sound.{AccessBelow}
 use Rattle.judge.specs.Internal.Verdicts.{setAfter}
-use Rattle.soundness.specs.Internal.Access.{Permitted, give-permitted, TakesBelow, Owns}
+use Rattle.soundness.specs.Internal.Access.{Permitted, give-permitted, Owns}
 
 -- a lock that a TAKE may take is free
 pub take-free : (k : ℕ) (ks : List ℕ) → waits (takes k) ks ≡ false → getD ks k 0 ≡ 0
 unfolding waits
 take-free k ks e = eqb-true (getD ks k 0) 0 (not-false (eqb (getD ks k 0) 0) e)
 
--- a flag taken out is out
-unset : (l : List Bool) (k : ℕ) → getD (set l k false) k false ≡ false
-unset l k = dite (decLt k (length l))
-    (λ (h : k < length l). getD-set-same l k false false h)
-    (λ (n : ¬ (k < length l)).
-    let h : length (set l k false) ≤ k = omega (arith, length-set l k false) in
-    List·getD-eq-default (set l k false) false h)
-
+-- a flag is not both in and out
 set-unset : {b : Bool} → b ≡ true → b ≡ false → ⊥
 set-unset e f = differ cc
 
 module _ {p : Program} {t : ℕ} {s : LockSet} {ks : List ℕ} (mine : Owns t s ks) where
   -- the thread that moves holds what its lock set says afterwards
-  pub owns-moved : (x : Access) → Permitted p t s x → TakesBelow (length ks) x → Owns t (setAfter x s) (locksAfter x t ks)
-  unfolding setAfter locksAfter holds withLock withoutLock TakesBelow
+  pub owns-moved : (x : Access) → Permitted p t s x → AccessBelow (length ks) (length (p .variables)) x → Owns t (setAfter x s) (locksAfter x t ks)
+  unfolding setAfter locksAfter holds withLock withoutLock
   owns-moved none h b = mine
   owns-moved (reads v) h b = mine
   owns-moved (writes v a) h b = mine
@@ -52,7 +47,7 @@ module _ {p : Program} {t : ℕ} {s : LockSet} {ks : List ℕ} (mine : Owns t s 
   }
   owns-moved (gives k) h b = record {
     owner = λ j e. dite (ℕ-discrete j k)
-        (λ (i : j ≡ k). absurd (set-unset (subst (λ (x : ℕ). getD (set (s .held) k false) x false ≡ true) i e) (unset (s .held) k)))
+        (λ (i : j ≡ k). absurd (set-unset (subst (λ (x : ℕ). getD (set (s .held) k false) x false ≡ true) i e) (getD-set-self (s .held) k false)))
         (λ (n : j ≢ k). getD-set-other ks k j 0 0 n ∙ mine .owner j (sym (getD-set-other (s .held) k j false false n) ∙ e));
   }
 

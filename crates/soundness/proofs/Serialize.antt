@@ -7,7 +7,7 @@ use native.Mathlib.Omega.{arith}
 use mathlib.Core.Path.{_≡_, refl, sym, ap, _∙_, subst}
 use mathlib.Core.Logic.{dite}
 use mathlib.Core.Bool.{false}
-use mathlib.Core.List.{List, []}
+use mathlib.Core.List.{List}
 use lib.ListN.{length, replicate, length-replicate, getD-replicate, List·getD-eq-default}
 use Rattle.judge.specs.LockSet.{empty, holds}
 use Rattle.judge.specs.declared.lock_set.LockSet.{LockSet}

@@ -1,5 +1,10 @@
 -- The open entries as the code holds them, and what one instruction does to them: how the contracts of src/nesting.rt's inner functions
 -- cite the definitions of Nesting, which are over lists. Nothing above that module cites it.
+--     entriesOf                  the open entries of an array
+--     under, changed, turned     the innermost with those below it; the entries after a change, after a turn
+--     entriesAfter, depthAfter   the array and the depth after a change
+--     Room, RoomOf               a change, a turn, has room
+--     Right                      a turn does what is wanted, and has room
 use Prim.Native.Nat.{ℕ, _+_, _-_, _<_}
 use mathlib.Core.Path.{_≡_}
 use mathlib.Core.List.{List, [], _∷_}

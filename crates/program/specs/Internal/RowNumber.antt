@@ -1,5 +1,7 @@
 -- The rows of document 01's table by their numbers, as `valid_instruction` takes them. Internal: `proofs/Decode.antt` shows that they
 -- are the rows of `Instruction`, and no contract above src/instruction.rt cites them.
+--     rowNumber         the row of an op code
+--     rowInstruction    the instruction of a row
 use Prim.Native.Nat.{ℕ, _+_, _-_, _*_}
 use lib.Dec.{ltb, eqb}
 use Rattle.program.specs.Choice.{choose}

@@ -1,10 +1,15 @@
 -- What a sound file is known to hold, for the laws of proofs/ and for what inner functions of the crates above require; no public
 -- call's contract cites it. `proofs/Sound.antt` shows it of every file that is read as sound.
+--     RegistersGood, AccessBelow, FieldsGood  an instruction names registers, locks and variables that there are
+--     AllValid                                the instructions of a section are valid
+--     countAt, SoundSection, SoundSections    a code section, and all of them
+--     SoundFile                               the whole file
 use Prim.Native.Nat.{ℕ, zero, suc, _+_, _*_, _/_, _<_, _≤_}
 use mathlib.Core.Path.{_≡_}
 use mathlib.Core.Bool.{true}
 use mathlib.Core.List.{List, []}
 use lib.ListN.{length}
+use Rattle.program.specs.Access.{Access, none, reads, writes, takes, gives, accessOf}
 use Rattle.program.specs.Field.{byteAt, pairAt}
 use Rattle.program.specs.Instruction.{decodeAt}
 use Rattle.program.specs.Instruction
@@ -18,23 +23,35 @@ use Rattle.program.specs.declared.instruction.Instruction.{Instruction}
 use Rattle.program.specs.declared.instruction.Instruction.the-variants.{Set, Copy, Add, Sub, Less, Read, Write, Take, Give, If, Else, While, Again, Atomic, End}
 use Rattle.program.specs.declared.layout.Layout.{Layout}
 
--- registers are below 8, locks and variables below their counts
+-- "Registers are r0 to r7": those that an instruction names are
+abbrev pub RegistersGood : Instruction → Type 0
+RegistersGood (Set a n) = a < registerCount
+RegistersGood (Copy a b) = (a < registerCount) × (b < registerCount)
+RegistersGood (Add a b c) = (a < registerCount) × (b < registerCount) × (c < registerCount)
+RegistersGood (Sub a b c) = (a < registerCount) × (b < registerCount) × (c < registerCount)
+RegistersGood (Less a b c) = (a < registerCount) × (b < registerCount) × (c < registerCount)
+RegistersGood (Read a v) = a < registerCount
+RegistersGood (Write a v) = a < registerCount
+RegistersGood (Take k) = Unit
+RegistersGood (Give k) = Unit
+RegistersGood (If a n) = a < registerCount
+RegistersGood (Else n) = Unit
+RegistersGood (While a n) = a < registerCount
+RegistersGood (Again n) = Unit
+RegistersGood (Atomic n) = Unit
+RegistersGood End = Unit
+
+-- "Every lock, variable .. named must lie below its count": those of an access do
+abbrev pub AccessBelow : (locks variables : ℕ) → Access → Type 0
+AccessBelow locks variables none = Unit
+AccessBelow locks variables (reads v) = v < variables
+AccessBelow locks variables (writes v a) = v < variables
+AccessBelow locks variables (takes k) = k < locks
+AccessBelow locks variables (gives k) = k < locks
+
+-- the fields of an instruction are right
 abbrev pub FieldsGood : (locks variables : ℕ) → Instruction → Type 0
-FieldsGood locks variables (Set a n) = a < registerCount
-FieldsGood locks variables (Copy a b) = (a < registerCount) × (b < registerCount)
-FieldsGood locks variables (Add a b c) = (a < registerCount) × (b < registerCount) × (c < registerCount)
-FieldsGood locks variables (Sub a b c) = (a < registerCount) × (b < registerCount) × (c < registerCount)
-FieldsGood locks variables (Less a b c) = (a < registerCount) × (b < registerCount) × (c < registerCount)
-FieldsGood locks variables (Read a v) = (a < registerCount) × (v < variables)
-FieldsGood locks variables (Write a v) = (a < registerCount) × (v < variables)
-FieldsGood locks variables (Take k) = k < locks
-FieldsGood locks variables (Give k) = k < locks
-FieldsGood locks variables (If a n) = a < registerCount
-FieldsGood locks variables (Else n) = Unit
-FieldsGood locks variables (While a n) = a < registerCount
-FieldsGood locks variables (Again n) = Unit
-FieldsGood locks variables (Atomic n) = Unit
-FieldsGood locks variables End = Unit
+FieldsGood locks variables i = RegistersGood i × AccessBelow locks variables (accessOf i)
 
 -- the n instructions from an offset on are valid
 abbrev pub AllValid : (locks variables : ℕ) → List ℕ → (n at : ℕ) → Type 0

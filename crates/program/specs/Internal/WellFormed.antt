@@ -1,5 +1,10 @@
 -- Structured code that a file can hold (document 01, "The file": nesting), for the theorem that ties the scan of `Nesting` to the
 -- trees of `Code`. The first part is what the theorem states; the second is what its proofs carry along, and nothing else uses it.
+--     flat, WellFormed, depth, Writes           structured code, and the instructions that write it out
+--     Passes, Closes, ComesTo                   a scan that passes, and what it has come to
+--     Parsed, Body, Parser                      code read from instructions
+--     Beyond, NamesBefore, LeadsBack, LeadBack  the places that open entries name
+--     Jump, Jumps                               distances that lead to places of the code
 use Prim.Native.Nat.{ℕ, suc, max, _+_, _≤_, _<_}
 use mathlib.Core.Path.{_≡_}
 use mathlib.Core.List.{List, [], _∷_, _++_}
@@ -110,9 +115,9 @@ Beyond q [] = Unit
 Beyond q (e ∷ es) = q ≤ named e
 
 -- every entry names a place before q
-unfoldable pub Inside : ℕ → List Entry → Type 0
-Inside q [] = Unit
-Inside q (e ∷ es) = (named e < q) × Inside q es
+unfoldable pub NamesBefore : ℕ → List Entry → Type 0
+NamesBefore q [] = Unit
+NamesBefore q (e ∷ es) = (named e < q) × NamesBefore q es
 
 -- a WHILE's distance does not lead from the place that it names to before the code
 unfoldable pub LeadsBack : Entry → Type 0

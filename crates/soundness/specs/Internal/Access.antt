@@ -1,10 +1,16 @@
 -- What an instruction may do and what it is, by its shared access alone; and when two accesses are independent. Only the proof of
 -- demand 3 speaks of it.
-use Prim.Native.Nat.{ℕ, _+_, _<_}
+--     Permitted            a thread may make the access
+--     AccessesBelow        instructions name only locks and variables that there are
+--     Owns                 a thread holds the locks of a set
+--     NoLock, NoVariable   an access touches no lock, no variable
+--     Independent          neither of two accesses sees the other
+--     Swaps                their moves may swap, by what they are
+use Prim.Native.Nat.{ℕ, _+_}
 use mathlib.Core.Path.{_≡_}
 use mathlib.Core.Bool.{true, false}
 use mathlib.Core.List.{List}
-use lib.ListN.{getD}
+use lib.ListN.{length, getD}
 use lib.Dec.{T}
 use Rattle.atomicity.specs.Atomicity.{atMost}
 use Rattle.atomicity.specs.declared.Atomicity.{Atomicity}
@@ -12,9 +18,12 @@ use Rattle.atomicity.specs.declared.Atomicity.the-variants.{Left, Right}
 use Rattle.judge.specs.Discipline.{kindAt, permits}
 use Rattle.judge.specs.LockSet.{holds}
 use Rattle.judge.specs.declared.lock_set.LockSet.{LockSet}
-use Rattle.program.specs.Access.{Access, none, reads, writes, takes, gives}
+use Rattle.program.specs.Access.{Access, none, reads, writes, takes, gives, accessOf}
 use Rattle.machine.specs.Step.{waits, valueRead, variablesAfter, locksAfter}
 use Rattle.program.specs.Layout.{Program}
+use Rattle.program.specs.Internal.Sound.{AccessBelow}
+use Rattle.program.specs.declared.instruction.Instruction.{Instruction}
+use Rattle.program.specs.declared.instruction.Instruction.the-variants.{End}
 
 -- thread t may make the access with the lock set s
 pub data Permitted (p : Program) (t : ℕ) (s : LockSet) : Access → Type 0 where
@@ -24,13 +33,9 @@ pub data Permitted (p : Program) (t : ℕ) (s : LockSet) : Access → Type 0 whe
   take-permitted : {k : ℕ} → Permitted p t s (takes k)
   give-permitted : {k : ℕ} → holds s k ≡ true → Permitted p t s (gives k)
 
--- the lock that it takes is one of n
-unfoldable pub TakesBelow : ℕ → Access → Type 0
-TakesBelow n none = Unit {0}
-TakesBelow n (reads v) = Unit {0}
-TakesBelow n (writes v a) = Unit {0}
-TakesBelow n (takes k) = k < n
-TakesBelow n (gives k) = Unit {0}
+-- each instruction's lock or variable is one that there is
+abbrev pub AccessesBelow : Program → List Instruction → Type 0
+AccessesBelow p is = (q : ℕ) → AccessBelow (p .locks) (length (p .variables)) (accessOf (getD is q End))
 
 -- thread t holds the locks of the set
 pub record Owns (t : ℕ) (s : LockSet) (ks : List ℕ) : Type 0 where

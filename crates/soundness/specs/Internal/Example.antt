@@ -1,5 +1,9 @@
 -- A file and a list of which demand 3 says something: two threads that each add 1 to a guarded variable, in a block, and a list that
 -- interleaves their blocks.
+--     adder, adders   a thread's code, and the file
+--     interleaving    the list
+--     Interrupted     the premises hold of a file and a list that is itself interrupted
+--     acceptedOf      what a file is accepted with
 use Prim.Native.Nat.{ℕ}
 use mathlib.Core.Path.{_≡_}
 use mathlib.Core.List.{List, [], _∷_, _++_}

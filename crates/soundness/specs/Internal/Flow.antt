@@ -1,4 +1,8 @@
 -- The lock set and the prefix at each place of typed code, and what a move may lead to. Only the proof of demand 3 speaks of it.
+--     Label, label       what is known at a place
+--     labelled           the labels of typed code
+--     moverAt, Follows   what a move is, and what it keeps
+--     Leads              where code may go on
 use Prim.Native.Nat.{ℕ}
 use mathlib.Core.Path.{_≡_}
 use Rattle.atomicity.specs.Atomicity.{join, closure}

@@ -1,5 +1,12 @@
 -- The step machine as an instance of `Moves`: states with the blocks finished, moves with their blocks, under the invariant that
 -- each thread holds the locks that its place says. Only the proof of demand 3 speaks of it.
+--     Annotated, ThreadsAnnotated   code with its labels; every thread's
+--     blockOf                       the block that a thread is in
+--     Swapped                       two moves in the other order
+--     nextInstruction, nextAccess, placeOf, labelOf, rowOf, nextMover
+--                                   where a thread stands, and what it does next
+--     Invariant                     what holds between moves
+--     Moving, machineMoves          a move, and the instance
 use Prim.Native.Nat.{ℕ, _≤_, _<_}
 use mathlib.Core.Path.{_≡_}
 use mathlib.Core.Bool.{_||_}
@@ -17,7 +24,7 @@ use Rattle.program.specs.Layout.{Program, codeOf}
 use Rattle.program.specs.declared.instruction.Instruction.{Instruction}
 use Rattle.program.specs.declared.instruction.Instruction.the-variants.{End}
 use Rattle.reduction.specs.Moves.{Moves}
-use Rattle.soundness.specs.Internal.Access.{Owns, TakesBelow}
+use Rattle.soundness.specs.Internal.Access.{AccessesBelow, Owns}
 use Rattle.soundness.specs.Internal.Flow.{Label, label, moverAt, Follows, Leads}
 use Rattle.soundness.specs.Internal.Labelled.{Row, row, MovesFrom}
 use Rattle.soundness.specs.Naming.{BlockName, Move, Named, blockName, moveOf, movedNamed}
@@ -36,7 +43,7 @@ pub record Annotated (p : Program) (t : ℕ) (start : LockSet) (code : List Inst
   pub past : (m : Prefix) → labelFrom m (length code) ≡ label end-locks (behind m atomicity)
   -- inside a block: the one that the code is begun in, or one of its own
   pub covered : (m : Prefix) (q : ℕ) → (isInner m || coveredFrom 0 code q) ≡ isInner (labelFrom m q .prefix)
-  pub takes-below : (q : ℕ) → TakesBelow (p .locks) (accessOf (getD code q End))
+  pub accesses : AccessesBelow p code
 
 -- every thread's code is, begun with no locks held
 abbrev pub ThreadsAnnotated : Program → Type 0

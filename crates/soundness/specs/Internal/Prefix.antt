@@ -1,5 +1,9 @@
 -- Where a place stands in its thread's code: outside every block, or inside an outermost block, of which what comes before the place
 -- has some atomicity (the prefix). Only the proof of demand 3 speaks of it.
+--     Prefix, statusOf, isInner  a prefix; what it counts as, and whether it is inside a block
+--     behind, entered            the prefix behind code, and behind an ATOMIC
+--     Below, Proper              the order of prefixes; not T
+--     Goes                       what a move may lead from and to
 use mathlib.Core.Logic.{_≢_}
 use mathlib.Core.Bool.{Bool, true, false}
 use lib.Dec.{T}

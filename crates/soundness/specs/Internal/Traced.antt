@@ -1,4 +1,7 @@
 -- A list of thread numbers as a trace, and back. Only the proof of demand 3 speaks of it.
+--     runNamed           where a list leads to
+--     Traced             a trace under the invariant
+--     threadsOf, Listed  the threads that make the moves, as an uninterrupted list
 use Prim.Native.Nat.{ℕ}
 use mathlib.Core.Path.{_≡_}
 use mathlib.Core.List.{List, [], _∷_, map}

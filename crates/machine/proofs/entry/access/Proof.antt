@@ -39,6 +39,7 @@ mul-t13 : tie.Need-mul-t13
 mul-t13 c = search needs
 
 element-copy-out-t16 : tie.Need-element-copy-out-t16
+unfolding accessOf
 element-copy-out-t16 c = fields-eq (c .before .i .given .1) (c .before .before .before .pre .0) .1
 
 -- `Instruction::Write(a, v) =>`
@@ -56,6 +57,7 @@ mul-variables : tie.Need-mul-variables
 mul-variables c = search needs
 
 element-write-variables : tie.Need-element-write-variables
+unfolding accessOf
 element-write-variables c = fields-eq (c .before .before .i2 .given .1) (c .before .before .before .before .pre .0) .1
 
 -- `Instruction::Take(k) => take(k, t, locks)`
@@ -63,7 +65,8 @@ enum-known-i-3 : tie.Need-enum-known-i-3
 enum-known-i-3 c = search needs
 
 take-requires : tie.Need-take-requires
-take-requires c κs = (fields-eq (c .before .before .i3 .given .1) (c .before .before .before .before .pre .0), c .before .before .before .before .pre .1)
+unfolding accessOf
+take-requires c κs = (fields-eq (c .before .before .i3 .given .1) (c .before .before .before .before .pre .0) .1, c .before .before .before .before .pre .1)
 
 -- `Instruction::Give(k) =>`
 enum-known-i-4 : tie.Need-enum-known-i-4
@@ -74,7 +77,8 @@ cast-locks : tie.Need-cast-locks
 cast-locks c = search needs
 
 element-write-locks : tie.Need-element-write-locks
-element-write-locks c = fields-eq (c .before .i4 .given .1) (c .before .before .before .pre .0)
+unfolding accessOf
+element-write-locks c = fields-eq (c .before .i4 .given .1) (c .before .before .before .pre .0) .1
 
 -- `Instruction::If(_, _) => Shared::Made(0)`
 enum-told-6 : tie.Need-enum-told-6

@@ -51,7 +51,7 @@ enum-known-i : tie.Need-enum-known-i
 enum-known-i c = search needs
 
 branched-requires : tie.Need-branched-requires
-branched-requires c κs = (fields-eq (c .before .i .given .1) (c .before .before .before .pre .0), c .before .before .before .pre .1)
+branched-requires c κs = (fields-eq (c .before .i .given .1) (c .before .before .before .pre .0) .0, c .before .before .before .pre .1)
 
 -- `Instruction::Else(n) => place + n as usize`
 enum-known-i-2 : tie.Need-enum-known-i-2
@@ -68,7 +68,7 @@ enum-known-i-3 : tie.Need-enum-known-i-3
 enum-known-i-3 c = search needs
 
 branched-requires-2 : tie.Need-branched-requires-2
-branched-requires-2 c κs = (fields-eq (c .before .i3 .given .1) (c .before .before .before .pre .0), c .before .before .before .pre .1)
+branched-requires-2 c κs = (fields-eq (c .before .i3 .given .1) (c .before .before .before .pre .0) .0, c .before .before .before .pre .1)
 
 -- `Instruction::Again(n) => back(place, n)`
 enum-known-i-4 : tie.Need-enum-known-i-4

@@ -13,17 +13,17 @@ cast-with-register : tie.Need-cast-with-register
 cast-with-register c = search needs
 
 with-register-requires : tie.Need-with-register-requires
-with-register-requires c κs = fields-eq (c .before .i .given .1) (c .before .before .before .pre)
+with-register-requires c κs = fields-eq (c .before .i .given .1) (c .before .before .before .pre) .0
 
 -- `Instruction::Copy(a, b) => with_register(r, a, register(r, b))`
 enum-known-i-2 : tie.Need-enum-known-i-2
 enum-known-i-2 c = search needs
 
 register-requires : tie.Need-register-requires
-register-requires c κs = fields-eq (c .before .i2 .given .1) (c .before .before .before .pre) .1
+register-requires c κs = fields-eq (c .before .i2 .given .1) (c .before .before .before .pre) .0 .1
 
 with-register-requires-2 : tie.Need-with-register-requires-2
-with-register-requires-2 c κs = fields-eq (c .before .before .i2 .given .1) (c .before .before .before .before .pre) .0
+with-register-requires-2 c κs = fields-eq (c .before .before .i2 .given .1) (c .before .before .before .before .pre) .0 .0
 
 -- `Instruction::Add(a, b, c) => with_register ..`
 enum-known-i-3 : tie.Need-enum-known-i-3
@@ -31,17 +31,17 @@ enum-known-i-3 c = search needs
 
 -- `std::num::wrapping_add_u32(register(r, b), register(r, c))`
 register-requires-2 : tie.Need-register-requires-2
-register-requires-2 c κs = fields-eq (c .before .i3 .given .1) (c .before .before .before .pre) .1
+register-requires-2 c κs = fields-eq (c .before .i3 .given .1) (c .before .before .before .pre) .0 .1
 
 register-requires-3 : tie.Need-register-requires-3
-register-requires-3 c κs = fields-eq (c .before .before .i3 .given .1) (c .before .before .before .before .pre) .2
+register-requires-3 c κs = fields-eq (c .before .before .i3 .given .1) (c .before .before .before .before .pre) .0 .2
 
 wrapping-add-u32-requires : tie.Need-wrapping-add-u32-requires
 wrapping-add-u32-requires c κs = search needs
 
 -- `Instruction::Add(a, b, c) => with_register ..`
 with-register-requires-3 : tie.Need-with-register-requires-3
-with-register-requires-3 c κs = fields-eq (c .before .before .before .before .i3 .given .1) (c .before .before .before .before .before .before .pre) .0
+with-register-requires-3 c κs = fields-eq (c .before .before .before .before .i3 .given .1) (c .before .before .before .before .before .before .pre) .0 .0
 
 -- `Instruction::Sub(a, b, c) => with_register ..`
 enum-known-i-4 : tie.Need-enum-known-i-4
@@ -49,33 +49,33 @@ enum-known-i-4 c = search needs
 
 -- `difference(register(r, b), register(r, c))`
 register-requires-4 : tie.Need-register-requires-4
-register-requires-4 c κs = fields-eq (c .before .i4 .given .1) (c .before .before .before .pre) .1
+register-requires-4 c κs = fields-eq (c .before .i4 .given .1) (c .before .before .before .pre) .0 .1
 
 register-requires-5 : tie.Need-register-requires-5
-register-requires-5 c κs = fields-eq (c .before .before .i4 .given .1) (c .before .before .before .before .pre) .2
+register-requires-5 c κs = fields-eq (c .before .before .i4 .given .1) (c .before .before .before .before .pre) .0 .2
 
 difference-requires : tie.Need-difference-requires
 difference-requires c κs = search needs
 
 -- `Instruction::Sub(a, b, c) => with_register ..`
 with-register-requires-4 : tie.Need-with-register-requires-4
-with-register-requires-4 c κs = fields-eq (c .before .before .before .before .i4 .given .1) (c .before .before .before .before .before .before .pre) .0
+with-register-requires-4 c κs = fields-eq (c .before .before .before .before .i4 .given .1) (c .before .before .before .before .before .before .pre) .0 .0
 
 -- `Instruction::Less(a, b, c) => with_register(r, a, less(register(r, b), register(r, c)))`
 enum-known-i-5 : tie.Need-enum-known-i-5
 enum-known-i-5 c = search needs
 
 register-requires-6 : tie.Need-register-requires-6
-register-requires-6 c κs = fields-eq (c .before .i5 .given .1) (c .before .before .before .pre) .1
+register-requires-6 c κs = fields-eq (c .before .i5 .given .1) (c .before .before .before .pre) .0 .1
 
 register-requires-7 : tie.Need-register-requires-7
-register-requires-7 c κs = fields-eq (c .before .before .i5 .given .1) (c .before .before .before .before .pre) .2
+register-requires-7 c κs = fields-eq (c .before .before .i5 .given .1) (c .before .before .before .before .pre) .0 .2
 
 less-requires : tie.Need-less-requires
 less-requires c κs = search needs
 
 with-register-requires-5 : tie.Need-with-register-requires-5
-with-register-requires-5 c κs = fields-eq (c .before .before .before .before .i5 .given .1) (c .before .before .before .before .before .before .pre) .0
+with-register-requires-5 c κs = fields-eq (c .before .before .before .before .i5 .given .1) (c .before .before .before .before .before .before .pre) .0 .0
 
 -- `Instruction::Read(a, _) => with_register(r, a, value)`
 enum-known-i-6 : tie.Need-enum-known-i-6
