@@ -117,10 +117,11 @@ outcome p t s =
     (choose (waits (accessOf (instructionOf p t s)) (s .locks)) Waiting
     Moved)
 
-abbrev pub after : Outcome → (unchanged moved : State) → State
-after Moved s s′ = s′
-after Waiting s s′ = s
-after Idle s s′ = s
+-- "the state is unchanged", unless the thread moves
+abbrev pub after : {A : Type 0} → Outcome → (unchanged moved : A) → A
+after Moved x y = y
+after Waiting x y = x
+after Idle x y = x
 
 unfoldable pub step : Program → ℕ → State → State
 step p t s = after (outcome p t s) s (moveBy (instructionOf p t s) t s)

@@ -17,7 +17,7 @@ use Rattle.program.specs.Limits.{entryLimit}
 use Rattle.program.specs.Nesting.{OpenAfter, broken, opened, nest, firstBroken, atCodeEnd}
 use Rattle.program.specs.declared.found.Found.{Found}
 use Rattle.program.specs.declared.found.Found.the-variants.{At}
-use Rattle.program.specs.Internal.Change.{entriesOf, entriesAfter, depthAfter, under, turned, Room, Right}
+use Rattle.program.specs.Internal.Change.{entriesOf, entriesAfter, depthAfter, under, turned, Room, Fulfils}
 use Rattle.program.specs.declared.instruction.Form.{Form}
 use Rattle.program.specs.declared.instruction.Instruction.{Instruction}
 use Rattle.program.specs.declared.nesting.Entry.{Entry}
@@ -69,7 +69,7 @@ module _ (locks variables : ℕ) (s : List ℕ) (start n : ℕ) where
 -- one turn of the scan, the entries in an array: f is the form of the instruction at place p, top the innermost entry, and t what is
 -- right whatever lies below it
 module _ (p d : ℕ) (xs : List Entry) (t : Turn) (top : Top) (f : Form) (is-top : entriesOf d xs ≡ under top (entriesOf (d - 1) xs))
-    (right : (below : List Entry) → length (under top below) ≡ d → Right t top below (nest p f (under top below))) where
+    (right : (below : List Entry) → length (under top below) ≡ d → Fulfils t top below (nest p f (under top below))) where
   length-under : length (under top (entriesOf (d - 1) xs)) ≡ d
   length-under = rw (← is-top) (length-stack (Then 0) d xs)
 

@@ -15,7 +15,7 @@ ghost use Rattle.program.specs.Nesting as Nesting;
 ghost use Rattle.program.specs.Layout.{instructionsAt, offsetFrom};
 ghost use Rattle.program.specs.Internal.Sound.{AllValid};
 ghost use Rattle.program.specs.Limits.{instructionSize};
-ghost use Rattle.program.specs.Internal.Change.{under, Right, entriesOf};
+ghost use Rattle.program.specs.Internal.Change.{under, Fulfils, entriesOf};
 
 // The entries that openers open. Each names the place of its closer.
 pub enum Entry {
@@ -73,7 +73,7 @@ fn is_named(p: usize, top: Top) -> bool
 
 // IF, WHILE and ATOMIC: "another instruction stands at the innermost named place", "a distance is 0", "a 17th entry opens".
 fn at_opener(p: usize, n: usize, e: Entry, top: Top, depth: usize) -> Turn
-    ensures { λ r. ⌜ ((below : List Entry) → length (under top below) ≡ depth → Right r top below (opening p n e (under top below))) ⌝ }
+    ensures { λ r. ⌜ ((below : List Entry) → length (under top below) ≡ depth → Fulfils r top below (opening p n e (under top below))) ⌝ }
 {
     if is_named(p, top) {
         return Turn::Broken;
@@ -89,7 +89,7 @@ fn at_opener(p: usize, n: usize, e: Entry, top: Top, depth: usize) -> Turn
 
 // An instruction that neither opens nor closes.
 fn at_plain(p: usize, top: Top) -> Turn
-    ensures { λ r. ⌜ ((below : List Entry) → Right r top below (passing p (under top below))) ⌝ }
+    ensures { λ r. ⌜ ((below : List Entry) → Fulfils r top below (passing p (under top below))) ⌝ }
 {
     if is_named(p, top) {
         return Turn::Broken;
@@ -100,7 +100,7 @@ fn at_plain(p: usize, top: Top) -> Turn
 // "ELSE must stand at the place its IF named and puts the place of its END there instead."
 fn at_else(p: usize, n: usize, top: Top) -> Turn
     requires { ⌜ (p < 2 ^ 62) × (n < 2 ^ 62) ⌝ }
-    ensures { λ r. ⌜ ((below : List Entry) → Right r top below (atElse p n (under top below))) ⌝ }
+    ensures { λ r. ⌜ ((below : List Entry) → Fulfils r top below (atElse p n (under top below))) ⌝ }
 {
     let Top::Holds(e) = top else {
         return Turn::Broken;
@@ -123,7 +123,7 @@ fn at_else(p: usize, n: usize, top: Top) -> Turn
 
 // "AGAIN's n differs from its WHILE's".
 fn at_again(p: usize, n: usize, top: Top) -> Turn
-    ensures { λ r. ⌜ ((below : List Entry) → Right r top below (atAgain p n (under top below))) ⌝ }
+    ensures { λ r. ⌜ ((below : List Entry) → Fulfils r top below (atAgain p n (under top below))) ⌝ }
 {
     let Top::Holds(e) = top else {
         return Turn::Broken;
@@ -149,7 +149,7 @@ fn at_again(p: usize, n: usize, top: Top) -> Turn
 
 // The closer of an ELSE or an ATOMIC.
 fn at_end(p: usize, top: Top) -> Turn
-    ensures { λ r. ⌜ ((below : List Entry) → Right r top below (atEnd p (under top below))) ⌝ }
+    ensures { λ r. ⌜ ((below : List Entry) → Fulfils r top below (atEnd p (under top below))) ⌝ }
 {
     let Top::Holds(e) = top else {
         return Turn::Broken;
@@ -181,7 +181,7 @@ fn wide(x: u16) -> usize
 // What an instruction of this form does at place p.
 fn turn_at(p: usize, f: Form, top: Top, depth: usize) -> Turn
     requires { ⌜ p < 2 ^ 62 ⌝ }
-    ensures { λ r. ⌜ ((below : List Entry) → length (under top below) ≡ depth → Right r top below (nest p f (under top below))) ⌝ }
+    ensures { λ r. ⌜ ((below : List Entry) → length (under top below) ≡ depth → Fulfils r top below (nest p f (under top below))) ⌝ }
 {
     match f {
         Form::Plain => at_plain(p, top),

@@ -15,7 +15,7 @@ use Rattle.machine.specs.Step.{outcome, after, step}
 use Rattle.machine.specs.declared.thread.Outcome.{Outcome}
 use Rattle.machine.specs.declared.thread.Outcome.the-variants.{Moved, Waiting, Idle}
 use Rattle.program.specs.Layout.{Program}
-use Rattle.soundness.specs.Naming.{Move, Named, namedStart, moveOf, moved, movedNamed, afterNamed, stepNamed, alsoMoved, movesFrom, moves}
+use Rattle.soundness.specs.Naming.{Move, Named, namedStart, moveOf, moved, movedNamed, stepNamed, movesFrom, moves}
 use Rattle.soundness.specs.Internal.Traced.{runNamed}
 
 abbrev counting : Counts → State → Run
@@ -26,7 +26,7 @@ pub step-named : (p : Program) (t : ℕ) (g : Named) → step p t (g .machine) �
 unfolding step movedNamed moved
 step-named p t g = by-outcome (outcome p t (g .machine))
   where
-    by-outcome : (o : Outcome) → after o (g .machine) (moved p t (g .machine)) ≡ afterNamed o g (movedNamed p t g) .machine
+    by-outcome : (o : Outcome) → after o (g .machine) (moved p t (g .machine)) ≡ after o g (movedNamed p t g) .machine
     by-outcome Moved = refl
     by-outcome Waiting = refl
     by-outcome Idle = refl
@@ -40,7 +40,7 @@ run-named p (t ∷ ts) g c =
     ap (λ (s : State). runFrom p (counting d s) ts .state) (step-named p t g) ∙ run-named p ts (stepNamed p t g) d
 
 -- the moves
-counted-also : (o : Outcome) (c : Counts) (m : Move) (l : List Move) → counted o c .moved + length l ≡ c .moved + length (alsoMoved o m l)
+counted-also : (o : Outcome) (c : Counts) (m : Move) (l : List Move) → counted o c .moved + length l ≡ c .moved + length (after o l (m ∷ l))
 counted-also Moved c m l = omega arith
 counted-also Waiting c m l = refl
 counted-also Idle c m l = refl

@@ -7,14 +7,14 @@ use mathlib.Core.List.{List, [], _∷_}
 use Rattle.machine.specs.Block.{OthersOutside, UninterruptedFrom}
 use Rattle.machine.specs.Run.{Entries}
 use Rattle.machine.specs.State.{State}
-use Rattle.machine.specs.Step.{outcome}
+use Rattle.machine.specs.Step.{outcome, after}
 use Rattle.machine.specs.declared.thread.Outcome.{Outcome}
 use Rattle.machine.specs.declared.thread.Outcome.the-variants.{Moved, Waiting, Idle}
 use Rattle.program.specs.Layout.{Program}
 use Rattle.reduction.specs.Reduction.{trace-nil, trace-cons, Uninterrupted, alone-nil, alone-cons, Alone}
 use Rattle.soundness.specs.Demand.{ThreadsOf}
 use Rattle.soundness.specs.Internal.Instance.{ThreadsAnnotated, Invariant, machineMoves, labelOf}
-use Rattle.soundness.specs.Naming.{Move, Named, moveOf, movedNamed, afterNamed, stepNamed, alsoMoved, movesFrom}
+use Rattle.soundness.specs.Naming.{Move, Named, moveOf, movedNamed, stepNamed, movesFrom}
 use Rattle.soundness.specs.Internal.Traced.{Traced, Listed, threadsOf, runNamed}
 use Rattle.soundness.proofs.Instance.{inside-row}
 use Rattle.soundness.proofs.Move.{invariant-moved}
@@ -38,7 +38,7 @@ module _ (p : Program) (A : ThreadsAnnotated p) where
   -- one entry, by its outcome
   entry : (t : ℕ) (ts : List ℕ) {g : Named} → t < p .threads → Invariant p A g → (o : Outcome) → outcome p t (g .machine) ≡ o
       → ((h : Named) → Invariant p A h → Traced p A h (movesFrom p h ts) (runNamed p h ts))
-      → (let h = afterNamed o g (movedNamed p t g) in Traced p A g (alsoMoved o (moveOf g t) (movesFrom p h ts)) (runNamed p h ts))
+      → (let h = after o g (movedNamed p t g) in Traced p A g (after o (movesFrom p h ts) (moveOf g t ∷ movesFrom p h ts)) (runNamed p h ts))
   unfolding moveOf
   entry t ts {g} b inv Moved e rest =
       let r = rest (movedNamed p t g) (invariant-moved p A inv t b e) in
@@ -61,7 +61,7 @@ module _ (p : Program) (A : ThreadsAnnotated p) where
   listed-cons {l} {g} {v} {m} inv alone b e named r =
       let t = m .thread in
       let ts = threadsOf l in
-      let next : stepNamed p t g ≡ movedNamed p t g = ap (λ (o : Outcome). afterNamed o g (movedNamed p t g)) e in
+      let next : stepNamed p t g ≡ movedNamed p t g = ap (λ (o : Outcome). after o g (movedNamed p t g)) e in
       record {
         threads = threads-cons p t ts b (r .threads);
         uninterrupted = (
@@ -71,7 +71,7 @@ module _ (p : Program) (A : ThreadsAnnotated p) where
         );
         same-end = ap (λ (h : Named). runNamed p h ts) next ∙ r .same-end;
         same-moves =
-            ap (λ (o : Outcome). alsoMoved o (moveOf g t) (movesFrom p (stepNamed p t g) ts)) e
+            ap (λ (o : Outcome). after o (movesFrom p (stepNamed p t g) ts) (moveOf g t ∷ movesFrom p (stepNamed p t g) ts)) e
             ∙ ap₂ (λ (b : Move) (k : List Move). b ∷ k) (sym named) (ap (λ (h : Named). movesFrom p h ts) next ∙ r .same-moves);
       }
 

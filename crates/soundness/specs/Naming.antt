@@ -10,9 +10,7 @@ use mathlib.Core.List.{List, [], _∷_, filter}
 use lib.ListN.{getD, set, replicate}
 use Rattle.machine.specs.Block.{inside}
 use Rattle.machine.specs.State.{State, start, threadOf}
-use Rattle.machine.specs.Step.{instructionOf, moveBy, outcome}
-use Rattle.machine.specs.declared.thread.Outcome.{Outcome}
-use Rattle.machine.specs.declared.thread.Outcome.the-variants.{Moved, Waiting, Idle}
+use Rattle.machine.specs.Step.{instructionOf, moveBy, outcome, after}
 use Rattle.machine.specs.declared.thread.Thread.{Thread}
 use Rattle.program.specs.Layout.{Program}
 use Rattle.reduction.specs.Sequence.{AllPairs}
@@ -57,23 +55,15 @@ movedNamed p t g = record {
 }
 
 -- an entry of the list that does not move changes nothing
-abbrev pub afterNamed : Outcome → (unchanged moved : Named) → Named
-afterNamed Moved g g′ = g′
-afterNamed Waiting g g′ = g
-afterNamed Idle g g′ = g
-
 abbrev pub stepNamed : Program → ℕ → Named → Named
-stepNamed p t g = afterNamed (outcome p t (g .machine)) g (movedNamed p t g)
+stepNamed p t g = after (outcome p t (g .machine)) g (movedNamed p t g)
 
 -- the moves of a list, in order
-abbrev pub alsoMoved : Outcome → Move → List Move → List Move
-alsoMoved Moved m ms = m ∷ ms
-alsoMoved Waiting m ms = ms
-alsoMoved Idle m ms = ms
-
 unfoldable pub movesFrom : Program → Named → List ℕ → List Move
 movesFrom p g [] = []
-movesFrom p g (t ∷ ts) = alsoMoved (outcome p t (g .machine)) (moveOf g t) (movesFrom p (stepNamed p t g) ts)
+movesFrom p g (t ∷ ts) =
+    let later = movesFrom p (stepNamed p t g) ts in
+    after (outcome p t (g .machine)) later (moveOf g t ∷ later)
 
 unfoldable pub moves : Program → List ℕ → List Move
 moves p ts = movesFrom p (namedStart p) ts

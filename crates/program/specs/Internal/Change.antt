@@ -4,7 +4,7 @@
 --     under, changed, turned     the innermost with those below it; the entries after a change, after a turn
 --     entriesAfter, depthAfter   the array and the depth after a change
 --     Room, RoomOf               a change, a turn, has room
---     Right                      a turn does what is wanted, and has room
+--     Fulfils                      a turn does what is wanted, and has room
 use Prim.Native.Nat.{ℕ, _+_, _-_, _<_}
 use mathlib.Core.Path.{_≡_}
 use mathlib.Core.List.{List, [], _∷_}
@@ -66,6 +66,6 @@ RoomOf Broken depth = Unit
 RoomOf (Goes ch) depth = Room ch depth
 
 -- the turn does what is wanted, and has room
-pub record Right (t : Turn) (top : Top) (below : List Entry) (wanted : OpenAfter) : Type 0 where
+pub record Fulfils (t : Turn) (top : Top) (below : List Entry) (wanted : OpenAfter) : Type 0 where
   pub does : turned t top below ≡ wanted
   pub room : RoomOf t (length (under top below))
