@@ -1,5 +1,7 @@
 //! Instructions, decoded from their four bytes ("The file", the table of op codes).
 
+use crate::op::{self, Word};
+
 /// The number of registers of a thread, r0 to r7.
 pub const REGISTERS: usize = 8;
 
@@ -27,70 +29,50 @@ use Instruction::*;
 
 impl Instruction {
     /// Decodes a known op whose unused fields are 0. The names used may still not exist.
-    #[inline]
-    pub fn decode(bytes: [u8; 4]) -> Option<Instruction> {
-        let n = u16::from_be_bytes([bytes[2], bytes[3]]);
-        Some(match bytes {
-            [0x01, to, _, _] => Set { to, number: n },
-            [0x02, to, from, 0] => Copy { to, from },
-            [0x03, to, left, right] => Add { to, left, right },
-            [0x04, to, left, right] => Sub { to, left, right },
-            [0x05, to, left, right] => Less { to, left, right },
-            [0x10, to, variable, 0] => Read { to, variable },
-            [0x11, from, variable, 0] => Write { from, variable },
-            [0x20, lock, 0, 0] => Take { lock },
-            [0x21, lock, 0, 0] => Give { lock },
-            [0x30, test, _, _] => If { test, distance: n },
-            [0x31, 0, _, _] => Else { distance: n },
-            [0x32, test, _, _] => While { test, distance: n },
-            [0x33, 0, _, _] => Again { distance: n },
-            [0x34, 0, _, _] => Atomic { distance: n },
-            [0x35, 0, 0, 0] => End,
+    pub fn decode(word: Word) -> Option<Instruction> {
+        let n = op::number(word);
+        Some(match word {
+            [op::SET, to, _, _] => Set { to, number: n },
+            [op::COPY, to, from, 0] => Copy { to, from },
+            [op::ADD, to, left, right] => Add { to, left, right },
+            [op::SUB, to, left, right] => Sub { to, left, right },
+            [op::LESS, to, left, right] => Less { to, left, right },
+            [op::READ, to, variable, 0] => Read { to, variable },
+            [op::WRITE, from, variable, 0] => Write { from, variable },
+            [op::TAKE, lock, 0, 0] => Take { lock },
+            [op::GIVE, lock, 0, 0] => Give { lock },
+            [op::IF, test, _, _] => If { test, distance: n },
+            [op::ELSE, 0, _, _] => Else { distance: n },
+            [op::WHILE, test, _, _] => While { test, distance: n },
+            [op::AGAIN, 0, _, _] => Again { distance: n },
+            [op::ATOMIC, 0, _, _] => Atomic { distance: n },
+            [op::END, 0, 0, 0] => End,
             _ => return None,
         })
     }
 
     /// The four bytes that decode to this instruction.
-    pub fn encode(self) -> [u8; 4] {
+    pub fn encode(self) -> Word {
         let wide = |op: u8, a: u8, n: u16| {
             let [b, c] = n.to_be_bytes();
             [op, a, b, c]
         };
         match self {
-            Set { to, number } => wide(0x01, to, number),
-            Copy { to, from } => [0x02, to, from, 0],
-            Add { to, left, right } => [0x03, to, left, right],
-            Sub { to, left, right } => [0x04, to, left, right],
-            Less { to, left, right } => [0x05, to, left, right],
-            Read { to, variable } => [0x10, to, variable, 0],
-            Write { from, variable } => [0x11, from, variable, 0],
-            Take { lock } => [0x20, lock, 0, 0],
-            Give { lock } => [0x21, lock, 0, 0],
-            If { test, distance } => wide(0x30, test, distance),
-            Else { distance } => wide(0x31, 0, distance),
-            While { test, distance } => wide(0x32, test, distance),
-            Again { distance } => wide(0x33, 0, distance),
-            Atomic { distance } => wide(0x34, 0, distance),
-            End => [0x35, 0, 0, 0],
-        }
-    }
-
-    /// Whether every register, variable and lock named lies below its count.
-    #[inline]
-    pub fn names_exist(self, variables: usize, locks: usize) -> bool {
-        let register = |number: u8| usize::from(number) < REGISTERS;
-        match self {
-            Set { to, .. } => register(to),
-            Copy { to, from } => register(to) && register(from),
-            Add { to, left, right } | Sub { to, left, right } | Less { to, left, right } => {
-                register(to) && register(left) && register(right)
-            }
-            Read { to: r, variable } | Write { from: r, variable } => {
-                register(r) && usize::from(variable) < variables
-            }
-            Take { lock } | Give { lock } => usize::from(lock) < locks,
-            If { test, .. } | While { test, .. } => register(test),
-            Else { .. } | Again { .. } | Atomic { .. } | End => true,
+            Set { to, number } => wide(op::SET, to, number),
+            Copy { to, from } => [op::COPY, to, from, 0],
+            Add { to, left, right } => [op::ADD, to, left, right],
+            Sub { to, left, right } => [op::SUB, to, left, right],
+            Less { to, left, right } => [op::LESS, to, left, right],
+            Read { to, variable } => [op::READ, to, variable, 0],
+            Write { from, variable } => [op::WRITE, from, variable, 0],
+            Take { lock } => [op::TAKE, lock, 0, 0],
+            Give { lock } => [op::GIVE, lock, 0, 0],
+            If { test, distance } => wide(op::IF, test, distance),
+            Else { distance } => wide(op::ELSE, 0, distance),
+            While { test, distance } => wide(op::WHILE, test, distance),
+            Again { distance } => wide(op::AGAIN, 0, distance),
+            Atomic { distance } => wide(op::ATOMIC, 0, distance),
+            End => [op::END, 0, 0, 0],
         }
     }
 }

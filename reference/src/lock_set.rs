@@ -27,4 +27,10 @@ impl LockSet {
     pub fn holds(self, lock: u8) -> bool {
         self.0 & 1 << lock != 0
     }
+
+    /// Whether every lock of the other set is in this one.
+    #[inline]
+    pub fn includes(self, other: LockSet) -> bool {
+        other.0 & !self.0 == 0
+    }
 }

@@ -1,8 +1,9 @@
 //! The step machine: one entry of the list is one step of a thread ("The step machine"; refusals
 //! 14 to 16).
 
-use crate::instruction::Instruction::{self, *};
+use crate::instruction::Instruction::{self, Atomic};
 use crate::instruction::REGISTERS;
+use crate::op::{self, Word};
 use crate::reader::{Program, MAX_LOCKS, MAX_THREADS, MAX_VARIABLES};
 use crate::refusal::{check_buffer, Refusal};
 
@@ -43,8 +44,13 @@ fn check_list(program: &Program, list: &[u8]) -> Result<(), Refusal> {
     if list.len() > MAX_LIST {
         return Err(Refusal::new(Refusal::LIST_TOO_LONG, MAX_LIST));
     }
-    let threads = program.thread_count();
-    match list.iter().position(|&entry| usize::from(entry) >= threads) {
+    // Most lists are good. The greatest number is found with vector instructions, which a search
+    // that may end early can't have.
+    let exists = |entry: u8| usize::from(entry) < program.thread_count();
+    if exists(list.iter().copied().fold(0, u8::max)) {
+        return Ok(());
+    }
+    match list.iter().position(|&entry| !exists(entry)) {
         Some(index) => Err(Refusal::new(Refusal::THREAD_NUMBER, index)),
         None => Ok(()),
     }
@@ -68,12 +74,12 @@ pub struct Thread {
 impl Thread {
     #[inline]
     fn get(&self, register: u8) -> u32 {
-        self.registers[usize::from(register)]
+        self.registers[usize::from(register) % REGISTERS]
     }
 
     #[inline]
     fn set(&mut self, register: u8, value: u32) {
-        self.registers[usize::from(register)] = value;
+        self.registers[usize::from(register) % REGISTERS] = value;
     }
 }
 
@@ -100,52 +106,64 @@ impl State {
         state
     }
 
-    /// Steps through a list of existing threads.
+    /// Steps through a list of existing threads. (Never inlined, so that the loop has the
+    /// processor's registers to itself.)
+    #[inline(never)]
     pub fn run(&mut self, program: &Program, list: &[u8]) -> Counts {
-        let mut counts = Counts::default();
+        let code = program.all_words();
+        let (mut waiting, mut idle) = (0, 0);
         for &entry in list {
-            match self.step(program, entry) {
-                Outcome::Moved => counts.moved += 1,
-                Outcome::Waiting => counts.waiting += 1,
-                Outcome::Idle => counts.idle += 1,
+            match self.step_in(code[usize::from(entry) % MAX_THREADS], entry) {
+                Outcome::Moved => {}
+                Outcome::Waiting => waiting += 1,
+                Outcome::Idle => idle += 1,
             }
         }
-        counts
+        Counts {
+            moved: list.len() as u64 - waiting - idle,
+            waiting,
+            idle,
+        }
     }
 
     /// One step of an existing thread of a sound program.
-    #[inline]
     pub fn step(&mut self, program: &Program, number: u8) -> Outcome {
-        let thread = &mut self.threads[usize::from(number)];
+        self.step_in(program.words(usize::from(number)), number)
+    }
+
+    /// One step of an existing thread in its code, read as it stands in the file. Every number in
+    /// a sound file's instruction lies below its limit: the remainders only spare tests.
+    #[inline]
+    fn step_in(&mut self, code: &[Word], number: u8) -> Outcome {
+        let thread = &mut self.threads[usize::from(number) % MAX_THREADS];
         let place = thread.place;
-        let code = program.code(usize::from(number));
-        let Some(&instruction) = code.get(usize::from(place)) else {
+        let Some(&word) = code.get(usize::from(place)) else {
             return Outcome::Idle;
         };
+        let [op, a, b, c] = word;
+        let n = op::number(word);
         let mut next = place + 1;
-        match instruction {
-            Set { to, number } => thread.set(to, u32::from(number)),
-            Copy { to, from } => thread.set(to, thread.get(from)),
-            Add { to, left, right } => {
-                thread.set(to, thread.get(left).wrapping_add(thread.get(right)))
+        match op {
+            op::SET => thread.set(a, u32::from(n)),
+            op::COPY => thread.set(a, thread.get(b)),
+            op::ADD => thread.set(a, thread.get(b).wrapping_add(thread.get(c))),
+            op::SUB => thread.set(a, thread.get(b).wrapping_sub(thread.get(c))),
+            op::LESS => thread.set(a, u32::from(thread.get(b) < thread.get(c))),
+            op::READ => thread.set(a, self.variables[usize::from(b) % MAX_VARIABLES]),
+            op::WRITE => self.variables[usize::from(b) % MAX_VARIABLES] = thread.get(a),
+            op::TAKE => {
+                let holder = &mut self.locks[usize::from(a) % MAX_LOCKS];
+                if *holder != 0 {
+                    return Outcome::Waiting;
+                }
+                *holder = number + 1;
             }
-            Sub { to, left, right } => {
-                thread.set(to, thread.get(left).wrapping_sub(thread.get(right)))
-            }
-            Less { to, left, right } => {
-                thread.set(to, u32::from(thread.get(left) < thread.get(right)))
-            }
-            Read { to, variable } => thread.set(to, self.variables[usize::from(variable)]),
-            Write { from, variable } => self.variables[usize::from(variable)] = thread.get(from),
-            Take { lock } if self.locks[usize::from(lock)] != 0 => return Outcome::Waiting,
-            Take { lock } => self.locks[usize::from(lock)] = number + 1,
-            Give { lock } => self.locks[usize::from(lock)] = 0,
-            If { test, distance } | While { test, distance } if thread.get(test) == 0 => {
-                next += distance
-            }
-            Else { distance } => next = place + distance,
-            Again { distance } => next = place - distance,
-            If { .. } | While { .. } | Atomic { .. } | End => {}
+            op::GIVE => self.locks[usize::from(a) % MAX_LOCKS] = 0,
+            op::IF | op::WHILE if thread.get(a) == 0 => next += n,
+            op::ELSE => next = place + n,
+            op::AGAIN => next = place - n,
+            // ATOMIC, END, and IF and WHILE whose register is not 0.
+            _ => {}
         }
         thread.place = next;
         Outcome::Moved
@@ -154,7 +172,7 @@ impl State {
     /// Whether a thread stands inside one of its blocks.
     pub fn stands_inside(&self, program: &Program, thread: u8) -> bool {
         let place = usize::from(self.threads[usize::from(thread)].place);
-        is_inside(program.code(usize::from(thread)), place)
+        is_inside(&program.code(usize::from(thread)), place)
     }
 
     /// The bytes a program's state takes.

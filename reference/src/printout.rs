@@ -1,10 +1,10 @@
 //! The printout, line by line and whole ("Line and bench"; refusals 17 and 16).
 
-use crate::atomicity::Atomicity;
-use crate::instruction::Instruction::{self, *};
 use crate::judge::Report;
-use crate::reader::{Kind, Program, INSTRUCTION_BYTES, MAX_FILE, VARIABLE_BYTES};
+use crate::op::Word;
+use crate::reader::{Program, Variable, MAX_FILE, MAX_THREADS};
 use crate::refusal::{check_buffer, Refusal};
+use crate::text::Text;
 
 /// The buffer that `line` needs, whatever the line's own length.
 pub const LINE_BUFFER: usize = 48;
@@ -14,23 +14,24 @@ pub const BENCH_INPUT: usize = MAX_FILE + 1;
 
 /// Lays line `i` of an accepted file's printout over the front of `out`; answers its length.
 pub fn line(file: &[u8], i: u64, out: &mut [u8]) -> Result<usize, Refusal> {
-    let program = Program::read(file)?;
     let mut report = Report::new();
-    report.fill(&program)?;
-    let count = count_lines(&program);
-    let index = usize::try_from(i).ok().filter(|&index| index < count);
-    let index = index.ok_or_else(|| Refusal::new(Refusal::NO_SUCH_LINE, count))?;
+    let program = report.fill(file)?;
+    let printout = Printout::new(&program, &report);
+    let Some(line) = printout.line(i) else {
+        return Err(Refusal::new(Refusal::NO_SUCH_LINE, printout.line_count()));
+    };
     check_buffer(out, LINE_BUFFER)?;
-    let mut text = Text::new();
-    text.line(&program, &report, Line::at(&program, index));
-    out[..text.length].copy_from_slice(text.bytes());
-    Ok(text.length)
+    let mut text = [0; LINE_BUFFER];
+    let length = Text::write(line, &mut text);
+    out[..length].copy_from_slice(&text[..length]);
+    Ok(length)
 }
 
 /// How many lines an accepted file's printout has.
 pub fn line_count(file: &[u8]) -> Result<u64, Refusal> {
-    let program = Program::read_accepted(file)?;
-    Ok(count_lines(&program) as u64)
+    let mut report = Report::new();
+    let program = report.fill(file)?;
+    Ok(Printout::new(&program, &report).line_count() as u64)
 }
 
 /// The output of the program `bench`: all lines, or the refusal.
@@ -41,240 +42,124 @@ pub fn bench(input: &[u8]) -> Vec<u8> {
     })
 }
 
+/// All lines, written one after the other into one buffer.
 fn print_all(file: &[u8]) -> Result<Vec<u8>, Refusal> {
-    let program = Program::read(file)?;
     let mut report = Report::new();
-    report.fill(&program)?;
-    let count = count_lines(&program);
-    let mut output = Vec::with_capacity(count * LINE_BUFFER);
-    let mut text = Text::new();
-    for index in 0..count {
-        text.length = 0;
-        text.line(&program, &report, Line::at(&program, index));
-        output.extend_from_slice(text.bytes());
+    let program = report.fill(file)?;
+    let printout = Printout::new(&program, &report);
+    let mut output = vec![0; printout.line_count() * LINE_BUFFER];
+    let mut length = 0;
+    for part in printout.parts() {
+        for index in 0..printout.length(part) {
+            let room = output[length..].first_chunk_mut();
+            let room = room.expect("a buffer's length for each line");
+            length += Text::write(printout.line_of(part, index), room);
+        }
     }
+    output.truncate(length);
     Ok(output)
+}
+
+/// What a line is about.
+#[derive(Clone, Copy)]
+pub(crate) enum Line {
+    Version,
+    Locks(usize),
+    Threads(usize),
+    Variables(usize),
+    Variable(usize, Variable),
+    /// A thread and how many instructions it has.
+    Code(usize, usize),
+    /// A place, the instruction there and its report byte.
+    Instruction(usize, Word, u8),
+    /// A thread and its whole code's report byte.
+    Whole(usize, u8),
+}
+
+/// Lines of one sort that follow each other.
+#[derive(Clone, Copy)]
+enum Part {
+    Header,
+    Variables,
+    /// A thread's code section.
+    Code(usize),
+    Wholes,
 }
 
 /// Version, locks, threads, and the variable section's length.
 const HEADER_LINES: usize = 4;
 
-/// A line for each header field, variable, code section, instruction and thread's whole.
-fn count_lines(program: &Program) -> usize {
-    HEADER_LINES
-        + program.variables().len()
-        + program.instruction_count()
-        + 2 * program.thread_count()
+/// An accepted program with its report, seen as lines.
+struct Printout<'p> {
+    program: &'p Program<'p>,
+    /// Each thread's part of the report.
+    reports: [&'p [u8]; MAX_THREADS],
 }
 
-/// What a line is about.
-enum Line {
-    Version,
-    Locks,
-    Threads,
-    Variables,
-    Variable(usize),
-    Code(usize),
-    Instruction { thread: usize, place: usize },
-    Whole(usize),
-}
+impl<'p> Printout<'p> {
+    fn new(program: &'p Program, report: &'p Report) -> Printout<'p> {
+        let mut reports = [&[][..]; MAX_THREADS];
+        let mut rest = report.bytes();
+        for (thread, part) in (0..program.thread_count()).zip(&mut reports) {
+            (*part, rest) = rest.split_at(program.words(thread).len() + 1);
+        }
+        Printout { program, reports }
+    }
 
-impl Line {
-    /// The line with an index below the line count.
-    fn at(program: &Program, index: usize) -> Line {
-        match index {
-            0 => return Line::Version,
-            1 => return Line::Locks,
-            2 => return Line::Threads,
-            3 => return Line::Variables,
-            _ => {}
+    /// All parts in their order.
+    fn parts(&self) -> impl Iterator<Item = Part> {
+        let code = (0..self.program.thread_count()).map(Part::Code);
+        let before = [Part::Header, Part::Variables];
+        before.into_iter().chain(code).chain([Part::Wholes])
+    }
+
+    /// How many lines a part has.
+    fn length(&self, part: Part) -> usize {
+        match part {
+            Part::Header => HEADER_LINES,
+            Part::Variables => self.program.variables().len(),
+            Part::Code(thread) => 1 + self.program.words(thread).len(),
+            Part::Wholes => self.program.thread_count(),
         }
-        let mut rest = index - HEADER_LINES;
-        if rest < program.variables().len() {
-            return Line::Variable(rest);
+    }
+
+    fn line_count(&self) -> usize {
+        self.parts().map(|part| self.length(part)).sum()
+    }
+
+    /// The line with a number, if there is one.
+    fn line(&self, i: u64) -> Option<Line> {
+        let mut index = usize::try_from(i).ok()?;
+        for part in self.parts() {
+            let length = self.length(part);
+            if index < length {
+                return Some(self.line_of(part, index));
+            }
+            index -= length;
         }
-        rest -= program.variables().len();
-        for thread in 0..program.thread_count() {
-            let length = program.code(thread).len();
-            match rest {
-                0 => return Line::Code(thread),
-                _ if rest <= length => {
-                    let place = rest - 1;
-                    return Line::Instruction { thread, place };
-                }
-                _ => rest -= 1 + length,
+        None
+    }
+
+    /// A line of a part, by its index there.
+    #[inline]
+    fn line_of(&self, part: Part, index: usize) -> Line {
+        let program = self.program;
+        match (part, index) {
+            (Part::Header, 0) => Line::Version,
+            (Part::Header, 1) => Line::Locks(program.lock_count()),
+            (Part::Header, 2) => Line::Threads(program.thread_count()),
+            (Part::Header, _) => Line::Variables(program.variables().len()),
+            (Part::Variables, number) => Line::Variable(number, program.variables()[number]),
+            (Part::Code(thread), 0) => Line::Code(thread, program.words(thread).len()),
+            (Part::Code(thread), _) => {
+                let place = index - 1;
+                let word = program.words(thread)[place];
+                Line::Instruction(place, word, self.reports[thread][place])
+            }
+            (Part::Wholes, thread) => {
+                let end = program.words(thread).len();
+                Line::Whole(thread, self.reports[thread][end])
             }
         }
-        Line::Whole(rest)
-    }
-}
-
-/// A line's text. The longest, of a variable guarded by k15, has 42 bytes.
-struct Text {
-    bytes: [u8; LINE_BUFFER],
-    length: usize,
-}
-
-impl Text {
-    fn new() -> Text {
-        Text {
-            bytes: [0; LINE_BUFFER],
-            length: 0,
-        }
-    }
-
-    fn bytes(&self) -> &[u8] {
-        &self.bytes[..self.length]
-    }
-
-    fn push(&mut self, bytes: &[u8]) -> &mut Self {
-        self.bytes[self.length..][..bytes.len()].copy_from_slice(bytes);
-        self.length += bytes.len();
-        self
-    }
-
-    /// Bytes in capital hexadecimal.
-    fn hex(&mut self, bytes: &[u8]) -> &mut Self {
-        const DIGITS: &[u8; 16] = b"0123456789ABCDEF";
-        for &byte in bytes {
-            let high = DIGITS[usize::from(byte >> 4)];
-            let low = DIGITS[usize::from(byte & 15)];
-            self.push(&[high, low]);
-        }
-        self
-    }
-
-    /// A blank, a prefix and a number in decimal.
-    fn number(&mut self, prefix: &[u8], number: u32) -> &mut Self {
-        let mut digits = [0; 10];
-        let mut first = digits.len();
-        let mut rest = number;
-        loop {
-            first -= 1;
-            digits[first] = b'0' + (rest % 10) as u8;
-            rest /= 10;
-            if rest == 0 {
-                break;
-            }
-        }
-        self.push(b" ").push(prefix).push(&digits[first..])
-    }
-
-    fn line(&mut self, program: &Program, report: &Report, line: Line) {
-        match line {
-            Line::Version => self.header(b" version", 1),
-            Line::Locks => self.header(b" locks", program.lock_count() as u8),
-            Line::Threads => self.header(b" threads", program.thread_count() as u8),
-            Line::Variables => {
-                let count = program.variables().len();
-                self.section_length(count * VARIABLE_BYTES);
-                self.push(b" variables").number(b"", count as u32)
-            }
-            Line::Variable(number) => self.variable(program, number),
-            Line::Code(thread) => {
-                let count = program.code(thread).len();
-                self.section_length(count * INSTRUCTION_BYTES);
-                self.push(b" thread").number(b"", thread as u32);
-                self.push(b" code").number(b"", count as u32)
-            }
-            Line::Instruction { thread, place } => {
-                let instruction = program.code(thread)[place];
-                self.instruction(place, instruction);
-                self.atomicity(report.at(program, thread, place))
-            }
-            Line::Whole(thread) => {
-                let end = program.code(thread).len();
-                self.push(b"thread").number(b"", thread as u32);
-                self.atomicity(report.at(program, thread, end))
-            }
-        };
-        self.push(b"\n");
-    }
-
-    fn header(&mut self, name: &[u8], value: u8) -> &mut Self {
-        self.hex(&[value]).push(name).number(b"", u32::from(value))
-    }
-
-    fn section_length(&mut self, length: usize) {
-        self.hex(&(length as u16).to_be_bytes());
-    }
-
-    fn atomicity(&mut self, report_byte: u8) -> &mut Self {
-        self.push(b" ").push(&[Atomicity::letter(report_byte)])
-    }
-
-    fn variable(&mut self, program: &Program, number: usize) -> &mut Self {
-        let variable = program.variables()[number];
-        let (kind, g) = match variable.kind {
-            Kind::Guarded { lock } => (0, lock),
-            Kind::Own { thread } => (1, thread),
-            Kind::Fixed => (2, 0),
-            Kind::Open => (3, 0),
-        };
-        self.hex(&[kind]).push(b" ").hex(&[g]).push(b" ");
-        self.hex(&variable.initial.to_be_bytes());
-        self.number(b"v", number as u32);
-        match variable.kind {
-            Kind::Guarded { lock } => self.push(b" guarded").number(b"k", u32::from(lock)),
-            Kind::Own { thread } => self.push(b" own").number(b"t", u32::from(thread)),
-            Kind::Fixed => self.push(b" fixed"),
-            Kind::Open => self.push(b" open"),
-        };
-        self.number(b"", variable.initial)
-    }
-
-    /// An instruction up to its fields: raw bytes, place, name, fields in byte order.
-    fn instruction(&mut self, place: usize, instruction: Instruction) {
-        let [op, a, b, c] = instruction.encode();
-        self.hex(&[op]).push(b" ").hex(&[a]).push(b" ");
-        self.hex(&[b]).push(b" ").hex(&[c]);
-        self.number(b"", place as u32);
-        self.push(b" ").push(name(instruction));
-        for (prefix, number) in fields(instruction).into_iter().flatten() {
-            self.number(prefix, number);
-        }
-    }
-}
-
-fn name(instruction: Instruction) -> &'static [u8] {
-    match instruction {
-        Set { .. } => b"SET",
-        Copy { .. } => b"COPY",
-        Add { .. } => b"ADD",
-        Sub { .. } => b"SUB",
-        Less { .. } => b"LESS",
-        Read { .. } => b"READ",
-        Write { .. } => b"WRITE",
-        Take { .. } => b"TAKE",
-        Give { .. } => b"GIVE",
-        If { .. } => b"IF",
-        Else { .. } => b"ELSE",
-        While { .. } => b"WHILE",
-        Again { .. } => b"AGAIN",
-        Atomic { .. } => b"ATOMIC",
-        End => b"END",
-    }
-}
-
-/// A field's prefix and value; numbers and distances are bare.
-type Field = Option<(&'static [u8], u32)>;
-
-fn fields(instruction: Instruction) -> [Field; 3] {
-    let r = |number: u8| -> Field { Some((b"r", u32::from(number))) };
-    let v = |number: u8| -> Field { Some((b"v", u32::from(number))) };
-    let k = |number: u8| -> Field { Some((b"k", u32::from(number))) };
-    let n = |number: u16| -> Field { Some((b"", u32::from(number))) };
-    match instruction {
-        Set { to, number } => [r(to), n(number), None],
-        Copy { to, from } => [r(to), r(from), None],
-        Add { to, left, right } | Sub { to, left, right } | Less { to, left, right } => {
-            [r(to), r(left), r(right)]
-        }
-        Read { to, variable } => [r(to), v(variable), None],
-        Write { from, variable } => [r(from), v(variable), None],
-        Take { lock } | Give { lock } => [k(lock), None, None],
-        If { test, distance } | While { test, distance } => [r(test), n(distance), None],
-        Else { distance } | Again { distance } | Atomic { distance } => [n(distance), None, None],
-        End => [None; 3],
     }
 }

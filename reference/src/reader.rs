@@ -1,7 +1,8 @@
 //! Reading a file front to back, the first offence deciding ("The file"; refusals 1 to 8).
 
+use crate::code::{Code, Limits, OnlyReading};
 use crate::instruction::Instruction;
-use crate::nesting::Nesting;
+use crate::op::Word;
 use crate::refusal::Refusal;
 
 pub const MAX_LOCKS: usize = 16;
@@ -31,34 +32,44 @@ pub struct Variable {
     pub initial: u32,
 }
 
-/// The contents of a sound file, decoded once. All threads' instructions lie in one vector, so
-/// that a call allocates once.
-pub struct Program {
+/// A file's contents as far as it is read. Code stays in the file: nothing is copied or allocated.
+pub struct Program<'f> {
     lock_count: usize,
     thread_count: usize,
     variable_count: usize,
     variables: [Variable; MAX_VARIABLES],
-    instructions: Vec<Instruction>,
-    /// Where each thread's code begins in `instructions`; the entry after the last ends it.
-    first: [usize; MAX_THREADS + 1],
-    /// Where each thread's code begins in the file.
-    offset: [usize; MAX_THREADS],
+    code: [Code<'f>; MAX_THREADS],
 }
 
-impl Program {
+impl<'f> Program<'f> {
     /// Reads a sound file, or refuses it with its first offence.
-    pub fn read(file: &[u8]) -> Result<Program, Refusal> {
+    pub fn read(file: &'f [u8]) -> Result<Program<'f>, Refusal> {
+        Program::read_with(file, |program, _, code| {
+            code.read(program.limits(), OnlyReading)?;
+            Ok(())
+        })
+    }
+
+    /// Reads a file section by section; `read_code` reads each thread's code, with a visitor of
+    /// its own.
+    #[inline]
+    pub(crate) fn read_with(
+        file: &'f [u8],
+        mut read_code: impl FnMut(&Program, usize, Code) -> Result<(), Refusal>,
+    ) -> Result<Program<'f>, Refusal> {
         let mut cursor = Cursor { file, at: 0 };
         let mut program = Program::with_header(&mut cursor)?;
         program.read_variables(&mut cursor)?;
         for thread in 0..program.thread_count {
-            program.read_code(thread, &mut cursor)?;
+            let code = cursor.code()?;
+            read_code(&program, thread, code)?;
+            program.code[thread] = code;
         }
         cursor.finish()?;
         Ok(program)
     }
 
-    fn with_header(cursor: &mut Cursor) -> Result<Program, Refusal> {
+    fn with_header(cursor: &mut Cursor<'f>) -> Result<Program<'f>, Refusal> {
         cursor.byte(Refusal::VERSION, |version| version == 1)?;
         let lock_count = cursor.byte(Refusal::COUNT, |n| n <= MAX_LOCKS)?;
         let thread_count = cursor.byte(Refusal::COUNT, |n| (1..=MAX_THREADS).contains(&n))?;
@@ -71,22 +82,22 @@ impl Program {
             thread_count,
             variable_count: 0,
             variables: [unused; MAX_VARIABLES],
-            instructions: Vec::with_capacity(cursor.file.len().min(MAX_FILE) / INSTRUCTION_BYTES),
-            first: [0; MAX_THREADS + 1],
-            offset: [0; MAX_THREADS],
+            code: [Code::default(); MAX_THREADS],
         })
     }
 
     fn read_variables(&mut self, cursor: &mut Cursor) -> Result<(), Refusal> {
         let (start, bytes) = cursor.section(VARIABLE_BYTES, MAX_VARIABLES)?;
-        for (number, record) in bytes.chunks_exact(VARIABLE_BYTES).enumerate() {
-            let kind = self
-                .decode_kind(record[0], record[1])
-                .ok_or_else(|| Refusal::new(Refusal::RECORD, start + number * VARIABLE_BYTES))?;
-            let initial = u32::from_be_bytes([record[2], record[3], record[4], record[5]]);
+        let (records, _) = bytes.as_chunks::<VARIABLE_BYTES>();
+        for (number, &[kind, g, w, x, y, z]) in records.iter().enumerate() {
+            let Some(kind) = self.decode_kind(kind, g) else {
+                let offset = start + number * VARIABLE_BYTES;
+                return Err(Refusal::new(Refusal::RECORD, offset));
+            };
+            let initial = u32::from_be_bytes([w, x, y, z]);
             self.variables[number] = Variable { kind, initial };
         }
-        self.variable_count = bytes.len() / VARIABLE_BYTES;
+        self.variable_count = records.len();
         Ok(())
     }
 
@@ -100,28 +111,11 @@ impl Program {
         }
     }
 
-    /// Reads one code section in one pass. A broken nesting is only remembered at first, because
-    /// any wrong instruction of the same thread comes before it.
-    fn read_code(&mut self, thread: usize, cursor: &mut Cursor) -> Result<(), Refusal> {
-        let (start, bytes) = cursor.section(INSTRUCTION_BYTES, MAX_INSTRUCTIONS)?;
-        let mut nesting = Nesting::new();
-        let mut broken = None;
-        for (place, word) in bytes.chunks_exact(INSTRUCTION_BYTES).enumerate() {
-            let offset = start + place * INSTRUCTION_BYTES;
-            let instruction = Instruction::decode([word[0], word[1], word[2], word[3]])
-                .filter(|decoded| decoded.names_exist(self.variable_count, self.lock_count))
-                .ok_or_else(|| Refusal::new(Refusal::INSTRUCTION, offset))?;
-            if broken.is_none() && !nesting.admit(place, instruction) {
-                broken = Some(offset);
-            }
-            self.instructions.push(instruction);
+    pub(crate) fn limits(&self) -> Limits {
+        Limits {
+            variables: self.variable_count as u8,
+            locks: self.lock_count as u8,
         }
-        if broken.is_none() && !nesting.is_closed() {
-            broken = Some(start + bytes.len());
-        }
-        self.offset[thread] = start;
-        self.first[thread + 1] = self.instructions.len();
-        broken.map_or(Ok(()), |at| Err(Refusal::new(Refusal::NESTING, at)))
     }
 
     pub fn lock_count(&self) -> usize {
@@ -136,25 +130,26 @@ impl Program {
         &self.variables[..self.variable_count]
     }
 
-    /// One thread's code.
+    /// One thread's code as it stands in the file.
     #[inline]
-    pub fn code(&self, thread: usize) -> &[Instruction] {
-        &self.instructions[self.first[thread]..self.first[thread + 1]]
+    pub fn words(&self, thread: usize) -> &'f [Word] {
+        self.code[thread].words
     }
 
-    /// How many instructions the threads before this one have together.
-    pub fn instructions_before(&self, thread: usize) -> usize {
-        self.first[thread]
+    /// All threads' code; absent threads have none.
+    pub(crate) fn all_words(&self) -> [&'f [Word]; MAX_THREADS] {
+        self.code.map(|code| code.words)
+    }
+
+    /// One thread's code, decoded.
+    pub fn code(&self, thread: usize) -> Vec<Instruction> {
+        let decode = |&word| Instruction::decode(word).expect("a sound file's instruction");
+        self.words(thread).iter().map(decode).collect()
     }
 
     /// How many instructions all threads have together.
     pub fn instruction_count(&self) -> usize {
-        self.instructions.len()
-    }
-
-    /// The file offset of a place; for the place past the last, the section's end.
-    pub fn offset_of(&self, thread: usize, place: usize) -> usize {
-        self.offset[thread] + place * INSTRUCTION_BYTES
+        self.code.iter().map(|code| code.words.len()).sum()
     }
 }
 
@@ -194,6 +189,13 @@ impl<'f> Cursor<'f> {
             return Err(Refusal::new(Refusal::SECTION_LENGTH, offset));
         }
         Ok((self.at, self.take(length)?))
+    }
+
+    /// A code section, its instructions not yet read.
+    fn code(&mut self) -> Result<Code<'f>, Refusal> {
+        let (start, bytes) = self.section(INSTRUCTION_BYTES, MAX_INSTRUCTIONS)?;
+        let (words, _) = bytes.as_chunks();
+        Ok(Code { start, words })
     }
 
     /// The file ends here, or bytes are left over.

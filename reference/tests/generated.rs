@@ -226,7 +226,7 @@ fn accepted_files_are_rich() {
         judge(&file, &mut report).unwrap();
         let mut at = 0;
         for thread in 0..program.thread_count() {
-            for &instruction in program.code(thread) {
+            for instruction in program.code(thread) {
                 note(describe(&program, instruction));
                 if matches!(instruction, Atomic { .. }) {
                     note(["", "block B", "block L", "block R", "block A"][usize::from(report[at])]);

@@ -110,7 +110,7 @@ fn cut_into_units(program: &Program, list: &[u8]) -> Trial {
 
 /// A search for an order of the units, depth first, dead ends remembered.
 struct Search<'t> {
-    program: &'t Program,
+    program: &'t Program<'t>,
     trial: &'t Trial,
     dead: HashSet<(State, Vec<usize>)>,
     list: Vec<u8>,

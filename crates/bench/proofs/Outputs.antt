@@ -29,10 +29,10 @@ module _ (s : List ℕ) (h : length s ≤ benchLimit) where
   output-refused r e buffer after size w = rw (take-all benchLimit s h, e) (w .counted, w .bytes)
 
   -- it is accepted; the report stands at the front of a longer array
-  pub output-accepted : {before after : List ℕ} {l : Layout} {n : ℕ} → AcceptedAs s before after l n
+  pub output-accepted : {starts counts before after : List ℕ} {l : Layout} {n : ℕ} → AcceptedAs s starts counts before after l n
       → benchOutput s ≡ flatten (lines s (programOf s l) after)
   unfolding benchOutput
-  output-accepted {before} {after} {l} {n} found =
+  output-accepted {starts} {counts} {before} {after} {l} {n} found =
       let report : List ℕ = found .accepted .report in
       let o = opened-by found in
       let same : lines s (programOf s l) (report ++ drop n before) ≡ lines s (programOf s l) report =

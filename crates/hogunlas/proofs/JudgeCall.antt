@@ -24,15 +24,15 @@ use Rattle.hogunlas.specs.Calls.{judgeAnswer, judgedOf, judgeBuffer, lai
 use Rattle.hogunlas.specs.declared.Judged.the-variants as judged
 
 -- what judge_file says, once its answer is known
-pub as-accepted : (s before after : List ℕ) (j : Judging) {l : Layout} {n : ℕ} → j ≡ judging.Done l n
-    → Judgement s before after j → AcceptedAs s before after l n
-as-accepted s before after j e h = subst (Judgement s before after) e h
+pub as-accepted : (s starts counts before after : List ℕ) (j : Judging) {l : Layout} {n : ℕ} → j ≡ judging.Done l n
+    → Judgement s starts counts before after j → AcceptedAs s starts counts before after l n
+as-accepted s starts counts before after j e h = subst (Judgement s starts counts before after) e h
 
-pub as-refused : (s before after : List ℕ) (j : Judging) {r : Refusal} → j ≡ judging.Refused r
-    → Judgement s before after j → accept s ≡ refused r
-as-refused s before after j e h = subst (Judgement s before after) e h
+pub as-refused : (s starts counts before after : List ℕ) (j : Judging) {r : Refusal} → j ≡ judging.Refused r
+    → Judgement s starts counts before after j → accept s ≡ refused r
+as-refused s starts counts before after j e h = subst (Judgement s starts counts before after) e h
 
-module _ {s before after : List ℕ} {l : Layout} {n : ℕ} (found : AcceptedAs s before after l n) where
+module _ {s starts counts before after : List ℕ} {l : Layout} {n : ℕ} (found : AcceptedAs s starts counts before after l n) where
   -- the report stands at the front of the buffer that judge_file was lent
   pub report-front : take n after ≡ found .accepted .report
   report-front = rw (found .bytes) (take-at (found .accepted .report) (drop n before) n (sym (found .size)))
@@ -50,7 +50,7 @@ module _ (s buffer : List ℕ) where
   unfolding judgeAnswer judgeBuffer
   judge-refused r e = rw e (refl, refl)
 
-  module _ {before after : List ℕ} {l : Layout} {n : ℕ} (found : AcceptedAs s before after l n) where
+  module _ {starts counts before after : List ℕ} {l : Layout} {n : ℕ} (found : AcceptedAs s starts counts before after l n) where
     -- the buffer is too short for the report
     pub judge-short : length buffer < n
         → (judged.Refused (ShortBuffer n) ≡ judgedOf (judgeAnswer s (length buffer))) × (buffer ≡ judgeBuffer s buffer)

@@ -32,8 +32,8 @@ program-of s l a reads accepts =
     bind-inv (judgeProgram (programOf s l)) _ (rw reads at accepts) λ report _ answer.
     sym (ap (λ (a : Accepted). a .program) (fine-inj _ a answer))
 
-pub opened-by : {s before after : List ℕ} {l : Layout} {n : ℕ} (found : AcceptedAs s before after l n) → Opened s l (found .accepted .report)
-opened-by {s} {before} {after} {l} found =
+pub opened-by : {s starts counts before after : List ℕ} {l : Layout} {n : ℕ} (found : AcceptedAs s starts counts before after l n) → Opened s l (found .accepted .report)
+opened-by {s} {starts} {counts} {before} {after} {l} found =
     let a = found .accepted in
     let same : a ≡ record { program = programOf s l; report = a .report } =
     ap (λ (p : Program). record { program = p; report = a .report }) (program-of s l a (found .reads) (found .accepts)) in
@@ -63,7 +63,6 @@ pub opened-sound : {s : List ℕ} {l : Layout} → OpenedFile s l → SoundFile 
 opened-sound {s} {l} o = sound-file s l (o .opened .reads)
 
 -- the counts of a sound file are small
-pub counts-small : (s : List ℕ) (l : Layout) → reading s ≡ fine l → (l .threads ≤ threadLimit) × (l .variables ≤ variableLimit) × (l .instructions ≤ programLimit)
-counts-small s l e =
-    let file = sound-file s l e in
+pub counts-small : (s : List ℕ) (l : Layout) → SoundFile s l → (l .threads ≤ threadLimit) × (l .variables ≤ variableLimit) × (l .instructions ≤ programLimit)
+counts-small s l file =
     omega (arith, file, instructions-few s (l .locks) (l .variables) (l .threads) (recordOffset (l .variables)) (l .instructions) (file .sections))

@@ -1,17 +1,20 @@
 -- What run answers, and what its buffer then holds, at each place where its code returns. Assumes nothing.
+--     entries-searched
+--                    a list whose entries all name threads is searched in vain
 --     every-entry    each entry of a list that was searched in vain names a thread
 --     run-refused    the file is refused
 --     run-long       the list is too long
 --     run-thread     an entry names no thread
 --     run-short      the buffer is too short for the state
 --     run-done       the list was run, and its end state laid over the buffer
-use Prim.Native.Nat.{ℕ, _+_, _*_, _<_, _≤_}
+use Prim.Native.Nat.{ℕ, zero, suc, _+_, _*_, _<_, _≤_}
 use mathlib.Core.Path.{_≡_, refl}
+use mathlib.Core.Bool.{Bool, true}
 use mathlib.Core.List.{List, _++_}
 use native.Mathlib.Omega.{arith}
 use lib.Dec.{ltb}
 use lib.ListN.{length, drop, getD}
-use borrow.Author.Tests.{le-leb, lt-leb, ltb-true}
+use borrow.Author.Tests.{le-leb, lt-leb, lt-ltb, ltb-true}
 use Rattle.judge.specs.Acceptance.{accept}
 use Rattle.machine.specs.Run.{Entries, run}
 use Rattle.machine.specs.State.{stateBytes}
@@ -36,6 +39,19 @@ abbrev endStateSize : Layout → ℕ
 endStateSize l = sizeOfState (l .variables) (l .locks) (l .threads)
 
 -- each entry names a thread
+none-bad : (good : ℕ → Bool) (n at : ℕ) → ((i : ℕ) → i < n → good (at + i) ≡ true) → firstBad good 1 n at ≡ Nowhere
+unfolding firstBad
+none-bad good zero at h = refl
+none-bad good (suc n) at h =
+    let here : at + 0 ≡ at = omega arith in
+    rw (rw here at (h 0 (omega arith)))
+    (none-bad good n (at + 1) (λ i k. let next : at + 1 + i ≡ at + suc i = omega arith in rw next (h (suc i) (omega arith))))
+
+pub entries-searched : (threads : ℕ) (list : List ℕ) → Entries threads list → firstBad (λ i. ltb (getD list i 0) threads) 1 (length list) 0 ≡ Nowhere
+unfolding Entries
+entries-searched threads list h =
+    none-bad (λ i. ltb (getD list i 0) threads) (length list) 0 (λ i k. let at : 0 + i ≡ i = omega arith in rw at (lt-ltb (getD list i 0) threads (h i k)))
+
 pub every-entry : (l : Layout) (list : List ℕ) → firstBad (λ i. ltb (getD list i 0) (l .threads)) 1 (length list) 0 ≡ Nowhere → Entries (l .threads) list
 unfolding Entries
 every-entry l list e i h =

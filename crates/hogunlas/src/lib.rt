@@ -10,7 +10,9 @@ use machine::run::run_list;
 use printout::print::line_count;
 use printout::print::write_line;
 use program::found::Found;
+use program::instruction::row_table;
 use program::layout::Layout;
+use program::limits::CODE_LIMIT;
 use program::limits::LINE_SIZE;
 use program::limits::LIST_LIMIT;
 use program::limits::REPORT_LIMIT;
@@ -19,6 +21,8 @@ use program::limits::WORD_SIZE;
 use program::refusal::Refusal;
 ghost use mathlib.Core.Path.{_≡_};
 ghost use lib.ListN.{length};
+ghost use Rattle.program.specs.Internal.Rows.{rowTable};
+ghost use Rattle.program.specs.Internal.Sections.{SectionTable};
 ghost use Rattle.soundness.specs.Demand.{Demand3};
 ghost use Rattle.hogunlas.specs.Internal.Opened.{OpenedFile};
 ghost use Rattle.hogunlas.specs.Calls.{judgeAnswer, judgeBuffer, judgedOf, lineAnswer, lineBuffer, printedOf, ranOf, runAnswer, runBuffer};
@@ -46,8 +50,11 @@ pub fn judge(file: &[u8], out: &mut [u8]) -> Judged
     ensures result { λ r. ⌜ r ≡ judgedOf (judgeAnswer (now (file .entry)) (length (now (out .entry)))) ⌝ }
     ensures buffer { λ _. ⌜ now (out .exit) ≡ judgeBuffer (now (file .entry)) (now (out .entry)) ⌝ }
 {
+    let rows = row_table();
+    let mut starts = [0usize; CODE_LIMIT];
+    let mut counts = [0usize; CODE_LIMIT];
     let mut report = [0u8; REPORT_LIMIT];
-    let judging = judge_file(file, &mut report);
+    let judging = judge_file(&rows, file, &mut starts, &mut counts, &mut report);
     match judging {
         Judging::Refused(refusal) => Judged::Refused(refusal),
         Judging::Done(_, n) => {
@@ -61,8 +68,16 @@ pub fn judge(file: &[u8], out: &mut [u8]) -> Judged
 }
 
 // An accepted file's program, run on a list: the caller's refusals in their order, then the run.
-fn run_accepted(file: &[u8], l: Layout, list: &[u8], out: &mut [u8]) -> Ran
-    requires { ⌜ OpenedFile (now file) l ⌝ }
+fn run_accepted(
+    rows: &[u8],
+    file: &[u8],
+    l: Layout,
+    starts: &[usize; CODE_LIMIT],
+    counts: &[usize; CODE_LIMIT],
+    list: &[u8],
+    out: &mut [u8],
+) -> Ran
+    requires { ⌜ (now rows ≡ rowTable) × OpenedFile (now file) l × SectionTable (now file) l (now starts) (now counts) ⌝ }
     ensures result { λ r. ⌜ r ≡ ranOf (runAnswer (now (file .entry)) (now (list .entry)) (length (now (out .entry)))) ⌝ }
     ensures buffer { λ _. ⌜ now (out .exit) ≡ runBuffer (now (file .entry)) (now (list .entry)) (now (out .entry)) ⌝ }
 {
@@ -77,8 +92,8 @@ fn run_accepted(file: &[u8], l: Layout, list: &[u8], out: &mut [u8]) -> Ran
             if out.len() < size {
                 return Ran::Refused(Refusal::ShortBuffer(size));
             }
-            let counts = run_list(file, l, list, out);
-            Ran::Counted(counts.moved, counts.waiting, counts.idle)
+            let ran = run_list(rows, file, l, starts, counts, list, out);
+            Ran::Counted(ran.moved, ran.waiting, ran.idle)
         }
     }
 }
@@ -90,11 +105,14 @@ pub fn run(file: &[u8], list: &[u8], out: &mut [u8]) -> Ran
     ensures buffer { λ _. ⌜ now (out .exit) ≡ runBuffer (now (file .entry)) (now (list .entry)) (now (out .entry)) ⌝ }
     ensures demand { λ _. ⌜ Demand3 (now (file .entry)) ⌝ }
 {
+    let rows = row_table();
+    let mut starts = [0usize; CODE_LIMIT];
+    let mut counts = [0usize; CODE_LIMIT];
     let mut report = [0u8; REPORT_LIMIT];
-    let judging = judge_file(file, &mut report);
+    let judging = judge_file(&rows, file, &mut starts, &mut counts, &mut report);
     match judging {
         Judging::Refused(refusal) => Ran::Refused(refusal),
-        Judging::Done(l, _) => run_accepted(file, l, list, out),
+        Judging::Done(l, _) => run_accepted(&rows, file, l, &starts, &counts, list, out),
     }
 }
 
@@ -103,8 +121,11 @@ pub fn line(file: &[u8], i: usize, out: &mut [u8]) -> Printed
     ensures result { λ r. ⌜ r ≡ printedOf (lineAnswer (now (file .entry)) i (length (now (out .entry)))) ⌝ }
     ensures buffer { λ _. ⌜ now (out .exit) ≡ lineBuffer (now (file .entry)) i (now (out .entry)) ⌝ }
 {
+    let rows = row_table();
+    let mut starts = [0usize; CODE_LIMIT];
+    let mut counts = [0usize; CODE_LIMIT];
     let mut report = [0u8; REPORT_LIMIT];
-    let judging = judge_file(file, &mut report);
+    let judging = judge_file(&rows, file, &mut starts, &mut counts, &mut report);
     match judging {
         Judging::Refused(refusal) => Printed::Refused(refusal),
         Judging::Done(l, _) => {
@@ -115,7 +136,7 @@ pub fn line(file: &[u8], i: usize, out: &mut [u8]) -> Printed
             if out.len() < LINE_SIZE {
                 return Printed::Refused(Refusal::ShortBuffer(LINE_SIZE));
             }
-            Printed::Line(write_line(file, l, &report, i, out))
+            Printed::Line(write_line(&rows, file, l, &starts, &counts, &report, i, out))
         }
     }
 }

@@ -14,6 +14,7 @@ use lib.Seq.{sets}
 use Rattle.program.specs.Answer.{Answer, fine, refused, _>>=_}
 use Rattle.program.specs.Layout.{programOf, codesAt, reading}
 use Rattle.program.specs.Limits.{instructionLimit, recordOffset, reportLimit}
+use Rattle.program.specs.Internal.Sections.{SectionTable}
 use Rattle.program.specs.Internal.Sound.{SoundSections, countAt}
 use Rattle.program.specs.declared.layout.Layout.{Layout}
 use Rattle.program.specs.declared.refusal.Refusal.{Refusal}
@@ -82,7 +83,7 @@ module _ (s : List ℕ) (l : Layout) (e : reading s ≡ fine l) where
       let n = sections-size s (l .locks) (l .variables) (l .threads) (recordOffset (l .variables)) (l .instructions) (file .sections) in
       omega (arith, n, file .threads)
 
-  module _ (report : List ℕ) where
+  module _ (starts counts : List ℕ) (table : SectionTable s l starts counts) (report : List ℕ) where
     pub file-refused : (r : Refusal) → refused r ≡ scanCodes (programOf s l) 0 0 report (programOf s l .codes) → accept s ≡ refused r
     file-refused r h = accepts-by ∙ refused-by judgedCodes (h ∙ codes-agree (programOf s l) 0 0 report (programOf s l .codes) nested)
       where
@@ -93,16 +94,17 @@ module _ (s : List ℕ) (l : Layout) (e : reading s ≡ fine l) where
 
     pub file-accepted : (after : List ℕ) → reportLimit ≤ length report
         → fine after ≡ scanCodes (programOf s l) 0 0 report (programOf s l .codes)
-        → AcceptedAs s report after l (l .instructions + l .threads)
+        → AcceptedAs s starts counts report after l (l .instructions + l .threads)
     file-accepted after h k =
         accepted-by judgedCodes report-length accepts-by (k ∙ codes-agree (programOf s l) 0 0 report (programOf s l .codes) nested)
       where
         accepted-by : (m : Answer (List ℕ)) → Holds Sized m → accept s ≡ (m >>= λ bytes. fine (acceptedOf s l bytes))
-            → fine after ≡ (m >>= λ bytes. fine (sets report 0 bytes)) → AcceptedAs s report after l (l .instructions + l .threads)
+            → fine after ≡ (m >>= λ bytes. fine (sets report 0 bytes)) → AcceptedAs s starts counts report after l (l .instructions + l .threads)
         accepted-by (fine bytes) n a q = record {
           accepted = acceptedOf s l bytes;
           accepts = a;
           reads = e;
+          table = table;
           size = sym (n .0);
           counted = refl;
           bytes = fine-inj after (sets report 0 bytes) q ∙ sets-front report bytes (omega (arith, n .1)) ∙ ap (λ (i : ℕ). bytes ++ drop i report) (n .0);

@@ -1,8 +1,9 @@
 -- Laws that belong to no one function.
 --     Definitions     the definitions of judging open
---     LockSets        sets of 16 flags: comparing them
+--     LockSets        lock sets, a bit for each lock
 --     VariableKinds   the kind of a variable, found in the file
---     Verdicts        a test's verdict, as an answer
+--     AccessRules     what a variable asks of a code, as a byte
+--     Effects         what an instruction does in the walk
 --     Reports         the report's bytes stored one after the other
 --     Scanning        the scan over flat code is the rules over structured code
 --     ScanCodes       ... over the codes of a program
@@ -15,7 +16,8 @@
 pub mod Definitions
 pub mod LockSets
 pub mod VariableKinds
-pub mod Verdicts
+pub mod AccessRules
+pub mod Effects
 pub mod Reports
 pub mod Scanning
 pub mod ScanCodes

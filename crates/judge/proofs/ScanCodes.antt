@@ -60,7 +60,7 @@ module _ (p : Program) where
       let size-is = size-of section w in
       ap (λ (is : List Instruction). scan p t (section .start) at (starting report) is >>= ending end (at + n)) (sym (append-nil (flat c) ∙ w .flat-is))
       ∙ ap (λ (m : Answer Carried). m >>= ending end (at + n))
-      (scan-agrees p t c (section .start) at empty Both [] report [] (w .well-formed) (omega (arith, w .shallow)))
+      (scan-agrees p t c (section .start) at empty Both [] report [] (w .well-formed))
       ∙ bind-assoc (judge p t (section .start) empty c) _ (ending end (at + n))
       ∙ bind-ext (judge p t (section .start) empty c) _ _ (λ r e.
       let m = holds-fine _ (judge p t (section .start) empty c) r (report-size p t c (section .start) empty) e in

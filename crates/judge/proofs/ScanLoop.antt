@@ -1,140 +1,131 @@
--- The loop of `scan_code`: what holds at its head, and how each instruction carries that on. Assumes nothing.
---     frames-outermost, frames-entered      the frames of an array, innermost first
---     effect-innermost, effect-depth        an opener or a closer with the innermost frame in an array, and the depth after it
---     carriedInArray                        what is carried, its frames in an array
---     instructionsFrom, scanFrom, codeScan  the instructions from an offset on, the scan from a place on, and the whole code's
---     Scanning                              what holds at the loop's head
---     scanning-start                        ... where the loop begins
---     scanning-passed, refused-passed       ... after a plain instruction; its refusal is the scan's
---     enter-depth                           the depth after a frame was entered
---     scanning-enter, scanning-leave        ... after an opener or a closer
---     refused-effect                        its refusal is the scan's
---     scanning-end, refused-scan            the code's end, and a refusal before it
-use Prim.Native.Nat.{ℕ, zero, suc, _+_, _*_, _-_, _≤_, _<_}
-use mathlib.Core.Path.{_≡_, refl, sym, _∙_, ap, subst}
-use mathlib.Core.List.{List, _∷_}
-use native.Mathlib.Omega.{arith}
-use borrow.Author.Tests.{ltb-true, eqb-false}
-use lib.Dec.{ltb, eqb}
+-- The loop of `walk_code`: what holds at its head, and how each effect carries that on. Assumes nothing.
+--     Matches, matches-next          the open frames are of the parts that the open entries open; after an instruction
+--     opens-shallow, closes-some     so there is room for an opener's frame, and a frame for a closer
+--     carriedInArray                 what is carried, its frames in an array
+--     instructionsFrom, scanFrom, codeScan
+--                                    the instructions from an offset on, the scan from a place on, and the whole code's
+--     Scanning                       what holds at the loop's head
+--     scanning-start                 ... where the loop begins
+--     scanning-next                  ... after an instruction, by what is carried on from it
+--     refused-there                  a refusal of an instruction is one of the code
+--     scanning-end                   the code's end
+--     frames-pushed, frames-replaced, frames-left
+--                                    the frames of the array after an opener and a closer
+use Prim.Native.Nat.{ℕ, suc, _+_, _*_, _-_, _≤_, _<_}
+use mathlib.Core.Path.{_≡_, refl, sym, _∙_, ap, ap₂, subst}
 use mathlib.Core.Bool.{Bool, true, false, not}
-use lib.ListN.{length, getD, set, drop, replicate, length-set, length-replicate}
-use Rattle.atomicity.specs.Atomicity.{closure, join}
+use mathlib.Core.List.{List, [], _∷_}
+use native.Mathlib.Numerals.{add-one}
+use native.Mathlib.Omega.{arith}
+use lib.ListN.{length, getD, set, replicate, length-set, length-replicate, getD-replicate}
+use Rattle.atomicity.specs.Atomicity.{reportByte, composition, closure, join}
 use Rattle.atomicity.specs.declared.Atomicity.{Atomicity}
-use Rattle.atomicity.specs.declared.Atomicity.the-variants.{Both}
+use Rattle.atomicity.specs.declared.Atomicity.the-variants.{Both, Left, Right, Atomic}
 use Rattle.program.specs.Answer.{Answer, fine, refused, _>>=_}
 use Rattle.program.specs.Choice.{choose}
-use Rattle.program.specs.Instruction.{decodeAt, decodedInstruction, formOf}
+use Rattle.program.specs.Instruction.{decodeAt, decodedInstruction}
 use Rattle.program.specs.Layout.{programOf, instructionsAt}
 use Rattle.program.specs.Limits.{entryLimit}
+use Rattle.program.specs.Nesting.{firstBroken}
+use Rattle.program.specs.Internal.Stack.{stackOf}
+use Rattle.program.specs.Internal.WellFormed.{Passes, Closes}
+use Rattle.program.specs.declared.found.Found.the-variants.{Nowhere}
 use Rattle.program.specs.declared.instruction.Instruction.{Instruction}
 use Rattle.program.specs.declared.layout.Layout.{Layout}
+use Rattle.program.specs.declared.nesting.Entry.{Entry}
+use Rattle.program.specs.declared.nesting.Entry.the-variants as entry
 use Rattle.program.specs.declared.refusal.Refusal.{Refusal}
-use Rattle.program.specs.declared.refusal.Refusal.the-variants.{Nesting, SetsDiffer, NotAtomic}
-use Rattle.program.specs.Internal.Stack.{stackOf}
+use Rattle.program.specs.declared.refusal.Refusal.the-variants.{SetsDiffer, NotAtomic}
 use Rattle.program.proofs.Contents.{length-instructions}
-use Rattle.program.proofs.Lists.{getD-any}
-use Rattle.program.proofs.Stack.{length-stack, stack-push, drop-stack}
+use Rattle.program.proofs.Differ.{differ}
+use Rattle.program.proofs.Lists.{getD-any, getD-set-holds}
+use Rattle.program.proofs.Stack.{length-stack, stack-push, stack-top}
 use Rattle.judge.specs.Judging.{isTop}
-use Rattle.judge.specs.LockSet.{empty, same}
-use Rattle.judge.specs.Internal.Scan.{Carried, carried, roleOf, pass, noFrame, refusing, openedFrame, closing, endOf, effectOf, outermost, follow, followBy, advance, scan, starting, framesOf, scanCode, ending}
+use Rattle.judge.specs.LockSet.{empty, same, withLock, withoutLock}
+use Rattle.judge.specs.Internal.Effect.{effectOf}
+use Rattle.judge.specs.Internal.Scan.{Carried, carried, noFrame, openedFrame, otherPart, endOf, closed, applied, scan, starting, framesOf, scanCode, ending}
+use Rattle.judge.specs.declared.effect.Effect.{Effect}
+use Rattle.judge.specs.declared.effect.Effect.the-variants as effect
+use Rattle.judge.specs.declared.frame.Closed.{Closed}
+use Rattle.judge.specs.declared.frame.Closed.the-variants.{Other, Whole, Refused}
 use Rattle.judge.specs.declared.frame.Frame.{Frame}
 use Rattle.judge.specs.declared.frame.Part.{Part}
-use Rattle.judge.specs.declared.frame.Part.the-variants.{Then, Else, Body, Block}
 use Rattle.judge.specs.declared.lock_set.LockSet.{LockSet}
-use Rattle.judge.specs.declared.turn.Mark.{Mark}
-use Rattle.judge.specs.declared.turn.Mark.the-variants.{Opens, Closes}
-use Rattle.judge.specs.declared.turn.Role.{Role}
-use Rattle.judge.specs.declared.turn.Role.the-variants.{Plain, Marks}
-use Rattle.judge.specs.declared.turn.Step.{Step}
-use Rattle.judge.specs.declared.turn.Step.the-variants.{Enter, Leave, Refuse}
-use Rattle.judge.specs.declared.turn.Effect.{Effect}
+use Rattle.judge.proofs.Effects.{partOf, AfterCloser, StepOf, step-of}
 
--- The frames of an array
+-- ---- frames and entries
 
--- the outermost are the first of the array
-frames-outermost : (n depth : ℕ) (frames : List Frame) → n ≤ depth → outermost n (framesOf depth frames) ≡ framesOf n frames
-unfolding outermost
-frames-outermost n depth frames h =
-    let e : depth ≡ depth - n + n = omega arith in
-    rw (length-stack noFrame depth frames)
-    (ap (λ (m : ℕ). drop (depth - n) (framesOf m frames)) e ∙ drop-stack noFrame (depth - n) n frames)
+-- the open frames are of the parts that the open entries open
+pub data Matches : List Entry → List Frame → Type 0 where
+  match-none : Matches [] []
+  match-more : {e : Entry} {es : List Entry} {f : Frame} {fs : List Frame} → f .part ≡ partOf e → Matches es fs → Matches (e ∷ es) (f ∷ fs)
 
--- a frame stored as the innermost of k
-frames-entered : (k depth : ℕ) (frames : List Frame) (f : Frame) → 0 < k → k - 1 ≤ depth → k < length frames
-    → framesOf k (set frames k f) ≡ f ∷ outermost (k - 1) (framesOf depth frames)
-frames-entered k depth frames f some h inside =
-    let e : k ≡ k - 1 + 1 = omega arith in
-    rw (frames-outermost (k - 1) depth frames h)
-    (ap (λ (m : ℕ). framesOf m (set frames m f)) e ∙ stack-push noFrame (k - 1) frames f (omega arith))
+matches-length : {es : List Entry} {fs : List Frame} → Matches es fs → length es ≡ length fs
+matches-length match-none = refl
+matches-length (match-more e m) = ap suc (matches-length m)
 
--- One opener or closer
+below-match : {e : Entry} {es : List Entry} {f : Frame} {fs : List Frame} → Matches (e ∷ es) (f ∷ fs) → Matches es fs
+below-match (match-more k m) = m
 
--- the innermost frame is the one at `depth`; where none is open it is not looked at
-effect-innermost : (m : Mark) (d at depth : ℕ) (s : LockSet) (a : Atomicity) (frames : List Frame) (z : Frame) → depth < length frames
-    → effectOf m d at depth s a (getD frames depth z) ≡ effectOf m d at depth s a (getD (framesOf depth frames) 0 noFrame)
-unfolding effectOf stackOf
-effect-innermost (Opens part) d at depth s a frames z h = refl
-effect-innermost Closes d at zero s a frames z h = refl
-effect-innermost Closes d at (suc depth) s a frames z h =
-    ap (λ (f : Frame). effectOf Closes d at (suc depth) s a f) (getD-any frames (suc depth) z noFrame h)
+innermost-part : {e : Entry} {es : List Entry} {f : Frame} {fs : List Frame} → Matches (e ∷ es) (f ∷ fs) → f .part ≡ partOf e
+innermost-part (match-more k m) = k
 
--- the depth after an opener or a closer at depth n: there is a place for the frame that is entered, and a frame to leave
-abbrev DepthBoundBy : Step → (n k : ℕ) → Type 0
-DepthBoundBy Enter n k = (0 < k) × (k ≤ entryLimit) × (k - 1 ≤ n)
-DepthBoundBy (Leave opener b) n k = k ≤ n
-DepthBoundBy (Refuse r) n k = Unit
+-- a part that ends with its other part to come was opened by an IF, and one that ends its construct was not
+module _ (q : ℕ) (is : List Instruction) (d : ℕ) (f : Frame) (s : LockSet) (a : Atomicity) where
+  other-of : (e : Entry) (es : List Entry) → endOf (partOf e) d f s a ≡ Other → AfterCloser q is e es → (m : ℕ) × Passes (suc q) is (entry.Else m ∷ es)
+  other-of (entry.Then w) es h next = next
+  other-of (entry.Else w) es h next = absurd (tests (same (f .locks) s) h)
+    where
+      tests : (b : Bool) → choose b (Whole (join (f .first) a)) (Refused (SetsDiffer d)) ≡ Other → ⊥
+      tests true k = differ cc
+      tests false k = differ cc
+  other-of (entry.Loop w n) es h next = absurd (tests (same (f .locks) s) h)
+    where
+      tests : (b : Bool) → choose b (Whole (closure a)) (Refused (SetsDiffer d)) ≡ Other → ⊥
+      tests true k = differ cc
+      tests false k = differ cc
+  other-of (entry.Block w) es h next = absurd (tests (not (isTop a)) h)
+    where
+      tests : (b : Bool) → choose b (Whole a) (Refused (NotAtomic d)) ≡ Other → ⊥
+      tests true k = differ cc
+      tests false k = differ cc
 
-abbrev DepthBound : ℕ → Effect → Type 0
-DepthBound n u = DepthBoundBy (u .step) n (u .depth)
+  whole-of : (e : Entry) (es : List Entry) (b : Atomicity) → endOf (partOf e) d f s a ≡ Whole b → AfterCloser q is e es → Passes (suc q) is es
+  whole-of (entry.Then w) es b h next = differ cc
+  whole-of (entry.Else w) es b h next = next
+  whole-of (entry.Loop w n) es b h next = next
+  whole-of (entry.Block w) es b h next = next
 
--- a test, and a refusal if it fails
-depth-test : (n : ℕ) (ok : Bool) (u : Effect) (r : Refusal) → (ok ≡ true → DepthBound n u) → DepthBound n (choose ok u (refusing r))
-depth-test n true u r h = h refl
-depth-test n false u r h = tt
+-- ---- the frames of an array
 
-depth-closing : (b : Atomicity) (n : ℕ) (s : LockSet) (f : Frame) → DepthBound n (closing b n s f)
-depth-closing b n s f = omega arith
+-- an opener's frame, stored above the innermost
+frames-pushed : (depth : ℕ) (frames : List Frame) (f : Frame) → depth + 1 < length frames → framesOf (depth + 1) (set frames (depth + 1) f) ≡ f ∷ framesOf depth frames
+frames-pushed depth frames f h = stack-push noFrame depth frames f h
 
-depth-part-end : (part : Part) (d n : ℕ) (s : LockSet) (a : Atomicity) (f : Frame) → 0 < n → n ≤ entryLimit → DepthBound n (endOf part d n s a f)
-depth-part-end Then d n s a f some h = (some, h, omega arith)
-depth-part-end Else d n s a f some h =
-    depth-test n (same (f .locks) s) (closing (join (f .first) a) n (f .locks) f) (SetsDiffer d) (λ _. depth-closing (join (f .first) a) n (f .locks) f)
-depth-part-end Body d n s a f some h =
-    depth-test n (same (f .locks) s) (closing (closure a) n (f .locks) f) (SetsDiffer d) (λ _. depth-closing (closure a) n (f .locks) f)
-depth-part-end Block d n s a f some h =
-    depth-test n (not (isTop a)) (closing a n s f) (NotAtomic d) (λ _. depth-closing a n s f)
+-- a frame stored as the innermost
+frames-replaced : (depth : ℕ) (frames : List Frame) (f : Frame) → 0 < depth → depth < length frames → framesOf depth (set frames depth f) ≡ f ∷ framesOf (depth - 1) frames
+frames-replaced depth frames f some h =
+    let m : depth ≡ depth - 1 + 1 = omega arith in
+    ap (λ (i : ℕ). framesOf i (set frames i f)) m ∙ stack-push noFrame (depth - 1) frames f (omega arith)
 
-depth-test-not : (n : ℕ) (none : Bool) (u : Effect) (r : Refusal) → (none ≡ false → DepthBound n u) → DepthBound n (choose none (refusing r) u)
-depth-test-not n true u r h = tt
-depth-test-not n false u r h = h refl
-
-effect-depth : (m : Mark) (d at n : ℕ) (s : LockSet) (a : Atomicity) (f : Frame) → n ≤ entryLimit → DepthBound n (effectOf m d at n s a f)
-unfolding effectOf
-effect-depth (Opens part) d at n s a f h =
-    depth-test n (ltb n entryLimit) (record { step = Enter; depth = n + 1; locks = s; sofar = Both; frame = openedFrame part at s a }) (Nesting d)
-    (λ e. let g = ltb-true n entryLimit e in (omega arith, omega arith, omega arith))
-effect-depth Closes d at n s a f h =
-    depth-test-not n (eqb n 0) (endOf (f .part) d n s a f) (Nesting d)
-    (λ e. let g = eqb-false n 0 e in depth-part-end (f .part) d n s a f (omega arith) h)
-
--- What holds at the loop's head
+-- ---- what holds at the loop's head
 
 -- what is carried: the frames of an array, the innermost at `depth`
 abbrev pub carriedInArray : List ℕ → List Frame → ℕ → LockSet → Atomicity → Carried
 carriedInArray report frames depth locks sofar = carried locks sofar (framesOf depth frames) report
 
-module _ (s : List ℕ) (l : Layout) (t start count at : ℕ) (report₀ : List ℕ) where
+module _ (s : List ℕ) (l : Layout) (c start count at : ℕ) (report₀ : List ℕ) where
   -- the instructions from an offset on
   abbrev pub instructionsFrom : ℕ → ℕ → List Instruction
   instructionsFrom n d = instructionsAt (l .locks) (l .variables) s n d
 
   -- the scan from a place on
   abbrev pub scanFrom : ℕ → Carried → Answer Carried
-  scanFrom p y = scan (programOf s l) t (start + 4 * p) (at + p) y (instructionsFrom (count - p) (start + 4 * p))
+  scanFrom p y = scan (programOf s l) c (start + 4 * p) (at + p) y (instructionsFrom (count - p) (start + 4 * p))
 
   -- the scan of the whole code
   abbrev pub codeScan : Answer Carried
-  codeScan = scan (programOf s l) t start at (starting report₀) (instructionsFrom count start)
+  codeScan = scan (programOf s l) c start at (starting report₀) (instructionsFrom count start)
 
   -- before the instruction at place p; scanning from there is the whole scan
   pub record Scanning (report : List ℕ) (frames : List Frame) (depth : ℕ) (locks : LockSet) (sofar : Atomicity) (p : ℕ) : Type 0 where
@@ -142,11 +133,16 @@ module _ (s : List ℕ) (l : Layout) (t start count at : ℕ) (report₀ : List 
     pub depth-bound : depth ≤ entryLimit
     pub frames-length : length frames ≡ entryLimit + 1
     pub report-length : length report ≡ length report₀
+    pub openers : (k : ℕ) → k < length frames → getD frames k noFrame .opener < length report₀
+    pub entries : List Entry
+    pub nested : Passes p (instructionsFrom (count - p) (start + 4 * p)) entries
+    pub matches : Matches entries (framesOf depth frames)
     pub rest-is-whole : scanFrom p (carriedInArray report frames depth locks sofar) ≡ codeScan
 
-  pub scanning-start : (none : Frame) (locks : LockSet) → locks ≡ empty → Scanning report₀ (replicate (entryLimit + 1) none) 0 locks Both 0
-  unfolding starting stackOf
-  scanning-start none locks e =
+  pub scanning-start : (none : Frame) (locks : LockSet) → none ≡ noFrame → locks ≡ empty → 0 < length report₀
+      → firstBroken 0 (instructionsFrom count start) [] ≡ Nowhere → Scanning report₀ (replicate (entryLimit + 1) none) 0 locks Both 0
+  unfolding starting stackOf noFrame
+  scanning-start none locks is-none e some whole =
       let e₁ : start + 4 * 0 ≡ start = omega arith in
       let e₂ : at + 0 ≡ at = omega arith in
       let e₃ : count - 0 ≡ count = omega arith in
@@ -155,101 +151,189 @@ module _ (s : List ℕ) (l : Layout) (t start count at : ℕ) (report₀ : List 
         depth-bound = omega arith;
         frames-length = length-replicate (entryLimit + 1) none;
         report-length = refl;
+        openers = λ k h.
+            let there : getD (replicate (entryLimit + 1) none) k noFrame ≡ noFrame =
+            getD-replicate (entryLimit + 1) k none noFrame (omega (arith, length-replicate (entryLimit + 1) none)) ∙ is-none in
+            subst (λ (f : Frame). f .opener < length report₀) (sym there) some;
+        entries = [];
+        nested = rw (e₁, e₃) whole;
+        matches = match-none;
         rest-is-whole = rw (e, e₁, e₂, e₃);
       }
 
   module _ (report : List ℕ) (frames : List Frame) (depth : ℕ) (locks : LockSet) (sofar : Atomicity) (p : ℕ)
-      (x : Scanning report frames depth locks sofar p) (more : p < count) (i : Instruction)
-      (e : i ≡ decodedInstruction (decodeAt (l .locks) (l .variables) s (start + 4 * p))) where
-    -- what is carried here
-    abbrev carriedNow : Carried
-    carriedNow = carriedInArray report frames depth locks sofar
+      (x : Scanning report frames depth locks sofar p) where
+    depth-is : length (x .entries) ≡ depth
+    depth-is = matches-length (x .matches) ∙ length-stack noFrame depth frames
 
-    -- scanning the instruction and then the rest is the whole scan
-    instruction-then-rest : (role : Role) → roleOf (formOf i) ≡ role
-        → (advance role (programOf s l) t (start + 4 * p) (at + p) i carriedNow >>= λ y. scanFrom (p + 1) y) ≡ codeScan
-    unfolding scan instructionsAt
-    instruction-then-rest role k =
-        let e₁ : count - p ≡ suc (count - (p + 1)) = omega arith in
-        let e₂ : start + 4 * (p + 1) ≡ start + 4 * p + 4 = omega arith in
-        let e₃ : at + (p + 1) ≡ suc (at + p) = omega arith in
-        rw (e₂, e₃, ← k, e) (rw e₁ at (x .rest-is-whole))
+    module _ (more : p < count) (i : Instruction) (is-i : i ≡ decodedInstruction (decodeAt (l .locks) (l .variables) s (start + 4 * p)))
+        (e : Effect) (is-e : e ≡ effectOf (programOf s l) c (start + 4 * p) i locks) where
+      -- what is carried here, and the instructions after this one
+      abbrev carriedNow : Carried
+      carriedNow = carriedInArray report frames depth locks sofar
 
-    -- a plain instruction
-    module _ (plain : Plain ≡ roleOf (formOf i)) where
-      pub scanning-passed : (report′ : List ℕ) (s′ : LockSet) (a : Atomicity) → length report′ ≡ length report
-          → fine (carriedInArray report′ frames depth s′ a) ≡ pass (programOf s l) t (start + 4 * p) (at + p) i carriedNow
-          → Scanning report′ frames depth s′ a (p + 1)
-      unfolding advance
-      scanning-passed report′ s′ a same-length k = record {
+      abbrev after : List Instruction
+      after = instructionsFrom (count - (p + 1)) (start + 4 * (p + 1))
+
+      instructions-here : instructionsFrom (count - p) (start + 4 * p) ≡ i ∷ after
+      unfolding instructionsAt
+      instructions-here =
+          let e₁ : count - p ≡ suc (count - (p + 1)) = omega arith in
+          let e₂ : start + 4 * (p + 1) ≡ start + 4 * p + 4 = omega arith in
+          rw (e₁, e₂, is-i)
+
+      -- what nesting is after it
+      pub step-here : StepOf p after (x .entries) e
+      step-here =
+          subst (StepOf p after (x .entries)) (sym is-e)
+          (step-of p after (programOf s l) c (start + 4 * p) locks i (x .entries) (rw instructions-here at (x .nested)))
+
+      -- scanning the instruction and then the rest is the whole scan
+      here-then-rest : (applied e (start + 4 * p) (at + p) carriedNow >>= λ y. scanFrom (p + 1) y) ≡ codeScan
+      unfolding scan
+      here-then-rest =
+          let e₂ : start + 4 * (p + 1) ≡ start + 4 * p + 4 = omega arith in
+          let e₃ : at + (p + 1) ≡ suc (at + p) = omega arith in
+          let effect-here = effectOf (programOf s l) c (start + 4 * p) i locks in
+          ap (λ (u : Effect). applied u (start + 4 * p) (at + p) carriedNow >>= λ y. scanFrom (p + 1) y) is-e
+          ∙ ap₂ (λ (d k : ℕ). applied effect-here (start + 4 * p) (at + p) carriedNow >>= λ y. scan (programOf s l) c d k y after) e₂ e₃
+          ∙ rw instructions-here at (x .rest-is-whole)
+
+      -- a refusal of the instruction is one of the code
+      pub refused-here : (r : Refusal) → e ≡ effect.Refused r → refused r ≡ codeScan
+      unfolding applied
+      refused-here r k = rw k at here-then-rest
+
+      -- after the instruction, by what is carried on from it
+      scanning-next : (report′ : List ℕ) (frames′ : List Frame) (depth′ : ℕ) (locks′ : LockSet) (sofar′ : Atomicity)
+          → applied e (start + 4 * p) (at + p) carriedNow ≡ fine (carriedInArray report′ frames′ depth′ locks′ sofar′)
+          → depth′ ≤ entryLimit → length frames′ ≡ length frames → length report′ ≡ length report
+          → ((k : ℕ) → k < length frames′ → getD frames′ k noFrame .opener < length report₀)
+          → (es : List Entry) → Passes (suc p) after es → Matches es (framesOf depth′ frames′)
+          → Scanning report′ frames′ depth′ locks′ sofar′ (p + 1)
+      scanning-next report′ frames′ depth′ locks′ sofar′ goes few same-frames same-report opener-bounds es passes match = record {
         place-bound = omega arith;
-        depth-bound = x .depth-bound;
-        frames-length = x .frames-length;
-        report-length = same-length ∙ x .report-length;
-        rest-is-whole = rw (← k) at (instruction-then-rest Plain (sym plain));
+        depth-bound = few;
+        frames-length = same-frames ∙ x .frames-length;
+        report-length = same-report ∙ x .report-length;
+        openers = opener-bounds;
+        entries = es;
+        nested = subst (λ (q : ℕ). Passes q after es) (sym (add-one p)) passes;
+        matches = match;
+        rest-is-whole = rw goes at here-then-rest;
       }
 
-      pub refused-passed : (r : Refusal) → refused r ≡ pass (programOf s l) t (start + 4 * p) (at + p) i carriedNow → refused r ≡ codeScan
-      unfolding advance
-      refused-passed r k = rw (← k) at (instruction-then-rest Plain (sym plain))
+      -- a plain instruction
+      scanning-plain : (report′ : List ℕ) (locks′ : LockSet) (sofar′ : Atomicity) → length report′ ≡ length report
+          → applied e (start + 4 * p) (at + p) carriedNow ≡ fine (carriedInArray report′ frames depth locks′ sofar′)
+          → Passes (suc p) after (x .entries) → Scanning report′ frames depth locks′ sofar′ (p + 1)
+      scanning-plain report′ locks′ sofar′ same-report goes passes =
+          scanning-next report′ frames depth locks′ sofar′ goes (x .depth-bound) refl same-report (x .openers) (x .entries) passes (x .matches)
 
-    -- an opener or a closer, by its effect
-    module _ (m : Mark) (is-m : Marks m ≡ roleOf (formOf i)) (z : Frame) (u : Effect)
-        (q : u ≡ effectOf m (start + 4 * p) (at + p) depth locks sofar (getD frames depth z)) where
-      effect-then-rest : (step : Step) → u .step ≡ step
-          → (followBy step u (framesOf depth frames) (set report (at + p) 0) >>= λ y. scanFrom (p + 1) y) ≡ codeScan
-      unfolding advance follow
-      effect-then-rest step k =
-          let inside : depth < length frames = omega (arith, x .frames-length, x .depth-bound) in
-          let v : effectOf m (start + 4 * p) (at + p) depth locks sofar (getD (framesOf depth frames) 0 noFrame) ≡ u =
-          sym (q ∙ effect-innermost m (start + 4 * p) (at + p) depth locks sofar frames z inside) in
-          rw (← k) (rw (length-stack noFrame depth frames, v) at (instruction-then-rest (Marks m) (sym is-m)))
+      pub scanning-nothing : e ≡ effect.Nothing → Scanning (set report (at + p) 1) frames depth locks sofar (p + 1)
+      unfolding applied
+      scanning-nothing k =
+          scanning-plain (set report (at + p) 1) locks sofar (length-set report (at + p) 1) (rw k) (subst (StepOf p after (x .entries)) k step-here)
 
-      effect-depth-by : (step : Step) → u .step ≡ step → DepthBoundBy step depth (u .depth)
-      effect-depth-by step k =
-          rw (← k)
-          (subst (DepthBound depth) (sym q) (effect-depth m (start + 4 * p) (at + p) depth locks sofar (getD frames depth z) (x .depth-bound)))
+      pub scanning-single : e ≡ effect.Single → Scanning (set report (at + p) 4) frames depth locks (composition sofar Atomic) (p + 1)
+      unfolding applied
+      scanning-single k =
+          scanning-plain (set report (at + p) 4) locks (composition sofar Atomic) (length-set report (at + p) 4) (rw k)
+          (subst (StepOf p after (x .entries)) k step-here)
 
-      pub enter-depth : u .step ≡ Enter → (0 < u .depth) × (u .depth ≤ entryLimit) × (u .depth - 1 ≤ depth)
-      enter-depth k = effect-depth-by Enter k
+      pub scanning-takes : (j : ℕ) → e ≡ effect.Takes j → Scanning (set report (at + p) 3) frames depth (withLock locks j) (composition sofar Right) (p + 1)
+      unfolding applied
+      scanning-takes j k =
+          scanning-plain (set report (at + p) 3) (withLock locks j) (composition sofar Right) (length-set report (at + p) 3) (rw k)
+          (subst (StepOf p after (x .entries)) k step-here)
 
-      pub scanning-enter : u .step ≡ Enter
-          → Scanning (set report (at + p) 0) (set frames (u .depth) (u .frame)) (u .depth) (u .locks) (u .sofar) (p + 1)
-      unfolding followBy
-      scanning-enter k =
-          let h = enter-depth k in
-          record {
-            place-bound = omega arith;
-            depth-bound = h .1;
-            frames-length = length-set frames (u .depth) (u .frame) ∙ x .frames-length;
-            report-length = length-set report (at + p) 0 ∙ x .report-length;
-            rest-is-whole =
-                rw (frames-entered (u .depth) depth frames (u .frame) (h .0) (h .2) (omega (arith, x .frames-length)))
-                (effect-then-rest Enter k);
-          }
+      pub scanning-gives : (j : ℕ) → e ≡ effect.Gives j → Scanning (set report (at + p) 2) frames depth (withoutLock locks j) (composition sofar Left) (p + 1)
+      unfolding applied
+      scanning-gives j k =
+          scanning-plain (set report (at + p) 2) (withoutLock locks j) (composition sofar Left) (length-set report (at + p) 2) (rw k)
+          (subst (StepOf p after (x .entries)) k step-here)
 
-      pub scanning-leave : (opener b : ℕ) → u .step ≡ Leave opener b
-          → Scanning (set (set report (at + p) 0) opener b) frames (u .depth) (u .locks) (u .sofar) (p + 1)
-      unfolding followBy
-      scanning-leave opener b k =
-          let h : u .depth ≤ depth = effect-depth-by (Leave opener b) k in
-          record {
-            place-bound = omega arith;
-            depth-bound = omega (arith, x .depth-bound);
-            frames-length = x .frames-length;
-            report-length = length-set (set report (at + p) 0) opener b ∙ length-set report (at + p) 0 ∙ x .report-length;
-            rest-is-whole = rw (frames-outermost (u .depth) depth frames h) at (effect-then-rest (Leave opener b) k);
-          }
+      -- a frame stored in the array keeps the bound of the openers
+      openers-set : (j : ℕ) (f : Frame) → f .opener < length report₀ → (k : ℕ) → k < length (set frames j f) → getD (set frames j f) k noFrame .opener < length report₀
+      openers-set j f h k b = getD-set-holds (λ k f. k < length frames → f .opener < length report₀) frames j f noFrame (λ _. h) k (x .openers k) (rw (← length-set frames j f) b)
 
-      pub refused-effect : (r : Refusal) → u .step ≡ Refuse r → refused r ≡ codeScan
-      unfolding followBy
-      refused-effect r k = effect-then-rest (Refuse r) k
+      -- an opener
+      module _ (q : Part) (k : e ≡ effect.Opens q) where
+        opened-step : StepOf p after (x .entries) (effect.Opens q)
+        opened-step = subst (StepOf p after (x .entries)) k step-here
+
+        pub opens-room : depth < entryLimit
+        opens-room = omega (arith, opened-step .1, depth-is)
+
+        pub scanning-opens : at + p < length report₀
+            → Scanning report (set frames (depth + 1) (openedFrame q (at + p) locks sofar)) (depth + 1) locks Both (p + 1)
+        unfolding applied
+        scanning-opens inside =
+            let f = openedFrame q (at + p) locks sofar in
+            let t = opened-step in
+            let pushed = frames-pushed depth frames f (omega (arith, opens-room, x .frames-length)) in
+            scanning-next report (set frames (depth + 1) f) (depth + 1) locks Both (rw (k, pushed)) (omega (arith, opens-room)) (length-set frames (depth + 1) f) refl
+            (openers-set (depth + 1) f inside) (t .0 ∷ x .entries) (t .3) (rw pushed (match-more (t .2) (x .matches)))
+
+      -- a closer
+      module _ (k : e ≡ effect.Closes) (z : Frame) where
+        -- the innermost frame
+        abbrev frame : Frame
+        frame = getD frames depth z
+
+        closed-step : StepOf p after (x .entries) effect.Closes
+        closed-step = subst (StepOf p after (x .entries)) k step-here
+
+        pub closes-some : 0 < depth
+        closes-some = let t = closed-step in omega (arith, depth-is, ap (λ (es : List Entry). length es) (t .2))
+
+        frame-is : getD frames depth noFrame ≡ frame
+        frame-is = getD-any frames depth noFrame z (omega (arith, x .depth-bound, x .frames-length))
+
+        frames-are : framesOf depth frames ≡ frame ∷ framesOf (depth - 1) frames
+        frames-are = stack-top noFrame depth frames closes-some ∙ ap (λ (f : Frame). f ∷ framesOf (depth - 1) frames) frame-is
+
+        pub opener-bound : frame .opener < length report₀
+        opener-bound = subst (λ (f : Frame). f .opener < length report₀) frame-is (x .openers depth (omega (arith, x .depth-bound, x .frames-length)))
+
+        -- the innermost entry and those below it match the innermost frame and those below it
+        innermost-match : Matches (closed-step .0 ∷ closed-step .1) (frame ∷ framesOf (depth - 1) frames)
+        innermost-match = subst (λ (es : List Entry). Matches es (frame ∷ framesOf (depth - 1) frames)) (closed-step .2) (rw frames-are at (x .matches))
+
+        closed-goes : (u : Closed) → endOf (frame .part) (start + 4 * p) frame locks sofar ≡ u
+            → applied e (start + 4 * p) (at + p) carriedNow ≡ closed u frame locks sofar (framesOf (depth - 1) frames) (set report (at + p) 0)
+        unfolding applied
+        closed-goes u h = rw (k, frames-are, h)
+
+        pub refused-closer : (r : Refusal) → endOf (frame .part) (start + 4 * p) frame locks sofar ≡ Refused r → refused r ≡ codeScan
+        unfolding closed
+        refused-closer r h = rw (closed-goes (Refused r) h) at here-then-rest
+
+        pub scanning-other : endOf (frame .part) (start + 4 * p) frame locks sofar ≡ Other
+            → Scanning (set report (at + p) 0) (set frames depth (otherPart frame locks sofar)) depth (frame .locks) Both (p + 1)
+        unfolding closed
+        scanning-other h =
+            let f = otherPart frame locks sofar in
+            let replaced = frames-replaced depth frames f closes-some (omega (arith, x .depth-bound, x .frames-length)) in
+            let t = closed-step in
+            let after-else = other-of p after (start + 4 * p) frame locks sofar (t .0) (t .1) (rw (innermost-part innermost-match) at h) (t .3) in
+            scanning-next (set report (at + p) 0) (set frames depth f) depth (frame .locks) Both (closed-goes Other h ∙ rw replaced) (x .depth-bound) (length-set frames depth f)
+            (length-set report (at + p) 0) (openers-set depth f opener-bound) (entry.Else (after-else .0) ∷ t .1) (after-else .1) (rw replaced (match-more refl (below-match innermost-match)))
+
+        pub scanning-whole : (b : Atomicity) → endOf (frame .part) (start + 4 * p) frame locks sofar ≡ Whole b
+            → Scanning (set (set report (at + p) 0) (frame .opener) (reportByte b)) frames (depth - 1) locks (composition (frame .before) b) (p + 1)
+        unfolding closed
+        scanning-whole b h =
+            let t = closed-step in
+            scanning-next (set (set report (at + p) 0) (frame .opener) (reportByte b)) frames (depth - 1) locks (composition (frame .before) b) (closed-goes (Whole b) h)
+            (omega (arith, x .depth-bound)) refl (length-set (set report (at + p) 0) (frame .opener) (reportByte b) ∙ length-set report (at + p) 0) (x .openers)
+            (t .1) (whole-of p after (start + 4 * p) frame locks sofar (t .0) (t .1) b (rw (innermost-part innermost-match) at h) (t .3)) (below-match innermost-match)
 
   -- the code's end
   pub scanning-end : (report : List ℕ) (frames : List Frame) (depth : ℕ) (locks : LockSet) (sofar : Atomicity) (p : ℕ)
       → Scanning report frames depth locks sofar p → count ≤ p
       → ending (start + 4 * count) (at + count) (carriedInArray report frames depth locks sofar)
-      ≡ scanCode (programOf s l) t at report₀ (record { start = start; code = instructionsFrom count start })
+      ≡ scanCode (programOf s l) c at report₀ (record { start = start; code = instructionsFrom count start })
   unfolding scanCode instructionsAt scan
   scanning-end report frames depth locks sofar p x none =
       let e : count - p ≡ 0 = omega arith in
@@ -257,6 +341,6 @@ module _ (s : List ℕ) (l : Layout) (t start count at : ℕ) (report₀ : List 
 
   -- a refusal of the scan is one of the code
   pub refused-scan : (r : Refusal) → refused r ≡ codeScan
-      → refused r ≡ scanCode (programOf s l) t at report₀ (record { start = start; code = instructionsFrom count start })
+      → refused r ≡ scanCode (programOf s l) c at report₀ (record { start = start; code = instructionsFrom count start })
   unfolding scanCode
   refused-scan r e = rw (← e)

@@ -1,9 +1,11 @@
 -- What only proofs and the contracts of inner functions use.
 --     Nested      every code of a program is well nested
 --     Judgement   what judging a file answers, and what it leaves in the report's buffer
---     Verdicts    what an answer of src/ says
---     Scan        judging as one pass over flat code; proofs/Scanning.antt proves that it agrees with the rules
+--     Effect      what an instruction does in the walk over a code
+--     Rule        what a variable asks of a code that reads or writes it, as a byte
+--     Scan        judging as one walk over flat code; proofs/Scanning.antt proves that it agrees with the rules
 pub mod Nested
 pub mod Judgement
-pub mod Verdicts
+pub mod Effect
+pub mod Rule
 pub mod Scan

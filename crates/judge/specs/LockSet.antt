@@ -1,35 +1,23 @@
--- Lock sets (document 01, "Lock discipline").
-use Prim.Native.Nat.{ℕ}
-use mathlib.Core.Bool.{Bool, true, false, _&&_, not}
-use mathlib.Core.List.{List, [], _∷_}
-use lib.ListN.{getD, set, replicate}
-use Rattle.program.specs.Limits.{lockLimit}
+-- Lock sets (document 01, "Lock discipline"): a bit for each lock.
+use Prim.Native.Nat.{ℕ, _+_, _-_, _/_, _%_, _^_}
+use mathlib.Core.Bool.{Bool}
+use lib.Dec.{eqb}
 use Rattle.judge.specs.declared.lock_set.LockSet.{LockSet}
 
 -- "Each thread starts with no locks held"
 unfoldable pub empty : LockSet
-empty = record { held = replicate lockLimit false }
+empty = record { bits = 0 }
 
 unfoldable pub holds : LockSet → ℕ → Bool
-holds s k = getD (s .held) k false
+holds s k = eqb (s .bits / 2 ^ k % 2) 1
 
--- "TAKE adds its lock, GIVE takes it out"
+-- "TAKE adds its lock" where it is not in the set, "GIVE takes it out" where it is
 unfoldable pub withLock : LockSet → ℕ → LockSet
-withLock s k = record { held = set (s .held) k true }
+withLock s k = record { bits = s .bits + 2 ^ k }
 
 unfoldable pub withoutLock : LockSet → ℕ → LockSet
-withoutLock s k = record { held = set (s .held) k false }
+withoutLock s k = record { bits = s .bits - 2 ^ k }
 
 -- equal sets
-abbrev pub sameFlag : Bool → Bool → Bool
-sameFlag true b = b
-sameFlag false b = not b
-
-unfoldable pub sameFlags : List Bool → List Bool → Bool
-sameFlags [] [] = true
-sameFlags [] (b ∷ bs) = false
-sameFlags (a ∷ l) [] = false
-sameFlags (a ∷ l) (b ∷ bs) = sameFlag a b && sameFlags l bs
-
 unfoldable pub same : LockSet → LockSet → Bool
-same s t = sameFlags (s .held) (t .held)
+same s t = eqb (s .bits) (t .bits)

@@ -1,17 +1,13 @@
-// The locks that are held at a place of a code, as its text says (document 01, "Lock discipline").
+// The locks that are held at a place of a code, as its text says (document 01, "Lock discipline"): a bit for each.
 use program::limits::LOCK_LIMIT;
 ghost use mathlib.Core.Path.{_≡_};
-ghost use Rattle.judge.specs.LockSet.{empty, holds, same, sameFlag, withLock, withoutLock};
+ghost use mathlib.Core.Bool.{true, false};
+ghost use Prim.Native.Nat.{_<_};
+ghost use Rattle.program.specs.Limits.{lockLimit};
+ghost use Rattle.judge.specs.LockSet.{empty, holds, same, withLock, withoutLock};
 
 pub struct LockSet {
-    pub held: [bool; LOCK_LIMIT],
-}
-
-// Whether two flags are equal.
-fn same_flag(a: bool, b: bool) -> bool
-    ensures { λ r. ⌜ r ≡ sameFlag a b ⌝ }
-{
-    if a { b } else { !b }
+    pub bits: u16,
 }
 
 impl LockSet {
@@ -22,56 +18,40 @@ impl LockSet {
     pub fn empty() -> LockSet
         ensures { λ r. ⌜ r ≡ empty ⌝ }
     {
-        LockSet {
-            held: [false; LOCK_LIMIT],
-        }
+        LockSet { bits: 0 }
     }
 
-    // Whether a lock is in the set. A number past the limit is no lock of any set.
+    // Whether a lock is in the set.
     pub fn holds(self, k: u8) -> bool
+        requires { ⌜ k < lockLimit ⌝ }
         ensures { λ r. ⌜ r ≡ holds self k ⌝ }
     {
-        let i = k as usize;
-        if i < LockSet::LIMIT {
-            return self.held[i];
-        }
-        false
+        (self.bits >> k) % 2 == 1
     }
 
     // "TAKE adds its lock"
-    pub fn with(mut self, k: u8) -> LockSet
+    pub fn with(self, k: u8) -> LockSet
+        requires { ⌜ (k < lockLimit) × (holds self k ≡ false) ⌝ }
         ensures { λ r. ⌜ r ≡ withLock self k ⌝ }
     {
-        let i = k as usize;
-        if i < LockSet::LIMIT {
-            self.held[i] = true;
+        LockSet {
+            bits: self.bits + (1 << k),
         }
-        self
     }
 
     // "GIVE takes it out"
-    pub fn without(mut self, k: u8) -> LockSet
+    pub fn without(self, k: u8) -> LockSet
+        requires { ⌜ (k < lockLimit) × (holds self k ≡ true) ⌝ }
         ensures { λ r. ⌜ r ≡ withoutLock self k ⌝ }
     {
-        let i = k as usize;
-        if i < LockSet::LIMIT {
-            self.held[i] = false;
+        LockSet {
+            bits: self.bits - (1 << k),
         }
-        self
     }
 
     pub fn same(self, other: LockSet) -> bool
         ensures { λ r. ⌜ r ≡ same self other ⌝ }
     {
-        let mut k = 0;
-        while k < LockSet::LIMIT {
-            let a = self.held[k];
-            let b = other.held[k];
-            if !same_flag(a, b) {
-                return false;
-            }
-            k += 1;
-        }
-        true
+        self.bits == other.bits
     }
 }

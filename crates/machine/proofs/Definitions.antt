@@ -4,8 +4,8 @@ use Rattle.program.proofs.Definitions.{reading-definitions}
 use Rattle.machine.specs.Block.{covers, coveredFrom, inside, OthersOutside, NobodyInside, UninterruptedFrom, Uninterrupted}
 use Rattle.machine.specs.Run.{Entries, runFrom, run}
 use Rattle.machine.specs.State.{fresh, start, threadOf, pairBytes, wordBytes, threadBytes, stateBytes}
-use Rattle.machine.specs.Step.{waits, valueRead, variablesAfter, locksAfter, registersAfter, branch, placeAfter, placeBehind, threadAfter, instructionOf, moveBy, outcome, step}
+use Rattle.machine.specs.Step.{waits, valueRead, variablesAfter, locksAfter, resultOf, stored, registersAfter, branch, placeAfter, placeBehind, threadAfter, instructionOf, moveBy, outcome, step}
 
 unfoldable pub running-definitions : Unit {0}
-unfolding reading-definitions flatMap fresh start threadOf pairBytes wordBytes threadBytes stateBytes waits valueRead variablesAfter locksAfter registersAfter branch placeAfter placeBehind threadAfter instructionOf moveBy outcome step runFrom run covers coveredFrom inside OthersOutside NobodyInside UninterruptedFrom Uninterrupted Entries
+unfolding reading-definitions flatMap fresh start threadOf pairBytes wordBytes threadBytes stateBytes waits valueRead variablesAfter locksAfter resultOf stored registersAfter branch placeAfter placeBehind threadAfter instructionOf moveBy outcome step runFrom run covers coveredFrom inside OthersOutside NobodyInside UninterruptedFrom Uninterrupted Entries
 running-definitions = tt

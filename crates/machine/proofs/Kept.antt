@@ -2,38 +2,33 @@
 --     kept-start             what holds of the arrays between two entries, at the start
 --     length-variables-after, length-locks-after, length-registers-after
 --                            an access and an instruction keep the lists' lengths
---     place-below            a thread that is not at its code's end stands at an instruction
---     fields-below-limits    that instruction's fields name registers, locks and variables that the arrays have
+--     access-below-limits    the instruction at a thread's place names locks and variables that the arrays have
 --     entry-idle, entry-waiting, entry-moved
 --                            the entry, from what the code finds
---     kept-waiting, kept-moved
---                            what it leaves is kept
+--     kept-moved             what a move leaves is kept
 use Prim.Native.Nat.{ℕ, suc, _+_, _*_, _≤_, _<_}
 use mathlib.Core.Path.{_≡_, refl, sym, ap, _∙_, subst}
-use mathlib.Core.Bool.{Bool, true, false}
+use mathlib.Core.Bool.{true, false}
 use mathlib.Core.List.{List, _∷_}
 use native.Mathlib.Omega.{arith}
 use lib.ListN.{length, getD, set, take, replicate, length-set, getD-replicate}
 use lib.Seq.{getD-take, take-set-lt}
-use Rattle.program.specs.Choice.{choose}
-use Rattle.program.specs.Instruction.{decodeAt, decodedInstruction}
-use Rattle.program.specs.Layout.{programOf, codeOf}
-use Rattle.program.specs.Internal.Sound.{AccessBelow, FieldsGood}
-use Rattle.program.specs.declared.layout.Layout.{Layout}
-use Rattle.program.specs.declared.instruction.Instruction.{Instruction}
-use Rattle.program.specs.declared.instruction.Instruction.the-variants.{Set, Copy, Add, Sub, Less, Read, Write, Take, Give, If, Else, While, Again, Atomic, End}
-use Rattle.program.proofs.Differ.{differ}
-use Rattle.program.proofs.Lists.{getD-first, getD-set-holds}
-use Rattle.program.proofs.Contents.{length-instructions, getD-instructions}
-use Rattle.program.proofs.Decode.{instruction-fields, fields-wider}
-use Rattle.machine.specs.State.{fresh, threadOf}
 use Rattle.program.specs.Access.{Access, none, reads, writes, takes, gives, accessOf}
+use Rattle.program.specs.Instruction.{decodeAt, decodedInstruction}
+use Rattle.program.specs.Layout.{CodeSection, programOf, codeOf, instructionsAt}
 use Rattle.program.specs.Limits.{lockLimit, threadLimit, variableLimit, registerCount}
-use Rattle.machine.specs.Step.{waits, valueRead, variablesAfter, locksAfter, placeAfter, registersAfter, threadAfter, instructionOf, moveBy}
+use Rattle.program.specs.Internal.Sections.{SectionTable}
+use Rattle.program.specs.Internal.Sound.{AccessBelow}
+use Rattle.program.specs.declared.instruction.Instruction.{Instruction}
+use Rattle.program.specs.declared.instruction.Instruction.the-variants.{End}
+use Rattle.program.specs.declared.layout.Layout.{Layout}
+use Rattle.program.proofs.Contents.{length-instructions, getD-instructions}
+use Rattle.program.proofs.Decode.{instruction-access, access-wider}
+use Rattle.program.proofs.Lists.{getD-first, getD-set-holds}
+use Rattle.machine.specs.State.{fresh, threadOf}
+use Rattle.machine.specs.Step.{waits, valueRead, variablesAfter, locksAfter, Result, keeps, puts, resultOf, stored, placeAfter, registersAfter, threadAfter, instructionOf, moveBy}
 use Rattle.machine.specs.Run.{runFrom}
-use Rattle.machine.specs.Internal.Kept.{stateIn, Prepared, nobody, EightRegisters, Kept}
-use Rattle.machine.specs.Internal.Reached.{shared, locksLeft}
-use Rattle.machine.specs.declared.entry.Shared.the-variants.{Waits, Made}
+use Rattle.machine.specs.Internal.Kept.{stateIn, nobody, EightRegisters, Kept}
 use Rattle.machine.specs.declared.thread.Thread.{Thread}
 use Rattle.machine.proofs.Outcome.{runFrom-idle, runFrom-waiting, runFrom-moved}
 use Rattle.machine.proofs.Fields.{place-inside}
@@ -50,9 +45,9 @@ unfolding fresh
 registers-fresh n t h = rw (getD-replicate n t fresh nobody h)
 
 -- so it is at the start
-pub kept-start : (l : Layout) (sizes vs ks : List ℕ) → length vs ≡ variableLimit → length ks ≡ lockLimit → Kept l sizes vs ks (replicate threadLimit fresh)
+pub kept-start : (l : Layout) (counts vs ks : List ℕ) → length vs ≡ variableLimit → length ks ≡ lockLimit → Kept l counts vs ks (replicate threadLimit fresh)
 unfolding EightRegisters
-kept-start l sizes vs ks e f = record { variables = e; locks = f; threads = refl; places = λ t h. omega (arith, place-fresh threadLimit t); registers = registers-fresh threadLimit }
+kept-start l counts vs ks e f = record { variables = e; locks = f; threads = refl; places = λ t h. omega (arith, place-fresh threadLimit t); registers = registers-fresh threadLimit }
 
 -- ---- the first elements count
 
@@ -89,35 +84,7 @@ module _ (k v : ℕ) where
   locks-first (takes x) t ks h = sym (take-set-lt k ks x (t + 1) h)
   locks-first (gives x) t ks h = sym (take-set-lt k ks x 0 h)
 
--- ---- what an access finds and leaves
-
-module _ (a : Access) (ks vs : List ℕ) where
-  -- it waited
-  shared-waits : shared a ks vs ≡ Waits → waits a ks ≡ true
-  unfolding shared
-  shared-waits e = choose-waits (waits a ks) e
-    where
-      choose-waits : (b : Bool) → choose b Waits (Made (valueRead a vs)) ≡ Waits → b ≡ true
-      choose-waits true e = refl
-      choose-waits false e = differ cc
-
-  -- it was made
-  shared-made : (x : ℕ) → shared a ks vs ≡ Made x → (waits a ks ≡ false) × (valueRead a vs ≡ x)
-  unfolding shared
-  shared-made x e = choose-made (waits a ks) e
-    where
-      choose-made : (b : Bool) → choose b Waits (Made (valueRead a vs)) ≡ Made x → (b ≡ false) × (valueRead a vs ≡ x)
-      choose-made true e = differ cc
-      choose-made false e = (refl, cc)
-
--- only a TAKE waits, and it leaves the variables alone
-variables-waiting : (a : Access) (r ks vs : List ℕ) → waits a ks ≡ true → variablesAfter a r vs ≡ vs
-unfolding waits variablesAfter
-variables-waiting none r ks vs e = refl
-variables-waiting (reads x) r ks vs e = refl
-variables-waiting (writes x a) r ks vs e = differ cc
-variables-waiting (takes x) r ks vs e = refl
-variables-waiting (gives x) r ks vs e = refl
+-- ---- lengths
 
 pub length-variables-after : (a : Access) (r vs : List ℕ) → length (variablesAfter a r vs) ≡ length vs
 unfolding variablesAfter
@@ -135,146 +102,120 @@ length-locks-after (writes x a) t ks = refl
 length-locks-after (takes x) t ks = length-set ks x (t + 1)
 length-locks-after (gives x) t ks = length-set ks x 0
 
+length-stored : (q : Result) (r : List ℕ) → length (stored q r) ≡ length r
+unfolding stored
+length-stored keeps r = refl
+length-stored (puts a x) r = length-set r a x
+
 pub length-registers-after : (i : Instruction) (x : ℕ) (r : List ℕ) → length (registersAfter i x r) ≡ length r
 unfolding registersAfter
-length-registers-after (Set a n) x r = length-set r a n
-length-registers-after (Copy a b) x r = simp length-set
-length-registers-after (Add a b c) x r = simp length-set
-length-registers-after (Sub a b c) x r = simp length-set
-length-registers-after (Less a b c) x r = simp length-set
-length-registers-after (Read a v) x r = length-set r a x
-length-registers-after (Write a v) x r = refl
-length-registers-after (Take k) x r = refl
-length-registers-after (Give k) x r = refl
-length-registers-after (If a n) x r = refl
-length-registers-after (Else n) x r = refl
-length-registers-after (While a n) x r = refl
-length-registers-after (Again n) x r = refl
-length-registers-after (Atomic n) x r = refl
-length-registers-after End x r = refl
+length-registers-after i x r = length-stored (resultOf i x r) r
 
 -- ---- one entry
 
-module _ (s : List ℕ) (l : Layout) (starts sizes : List ℕ) (prepared : Prepared s l starts sizes)
-    (vs ks : List ℕ) (ths : List Thread) (kept : Kept l sizes vs ks ths) (t : ℕ) (h : t < l .threads) where
+module _ {s : List ℕ} {l : Layout} {starts counts vs ks : List ℕ} {ths : List Thread}
+    (table : SectionTable s l starts counts) (kept : Kept l counts vs ks ths) (t : ℕ) (h : t < l .threads) where
   thread-first : threadOf (stateIn l vs ks ths) t ≡ getD ths t nobody
   unfolding threadOf
-  thread-first = getD-first (l .threads) ths t fresh nobody h (omega (arith, prepared .threads, kept .threads))
+  thread-first = getD-first (l .threads) ths t fresh nobody h (omega (arith, table .sound .threads, kept .threads))
 
-  code-size : length (codeOf (programOf s l) t) ≡ getD sizes t 0
-  code-size =
-      ap length (prepared .sections t h .code)
-      ∙ length-instructions (l .locks) (l .variables) s (getD sizes t 0) (getD starts t 0)
+  code-located : codeOf (programOf s l) t ≡ instructionsAt (l .locks) (l .variables) s (getD counts t 0) (getD starts t 0)
+  unfolding codeOf
+  code-located = ap (λ (c : CodeSection). c .code) (table .located t h .section)
 
-  at-end : getD ths t nobody .place ≡ getD sizes t 0 → threadOf (stateIn l vs ks ths) t .place ≡ length (codeOf (programOf s l) t)
+  code-size : length (codeOf (programOf s l) t) ≡ getD counts t 0
+  code-size = ap length code-located ∙ length-instructions (l .locks) (l .variables) s (getD counts t 0) (getD starts t 0)
+
+  at-end : getD ths t nobody .place ≡ getD counts t 0 → threadOf (stateIn l vs ks ths) t .place ≡ length (codeOf (programOf s l) t)
   at-end e = rw (thread-first, code-size) e
 
-  not-at-end : (getD ths t nobody .place ≡ getD sizes t 0 → ⊥) → threadOf (stateIn l vs ks ths) t .place ≡ length (codeOf (programOf s l) t) → ⊥
+  not-at-end : (getD ths t nobody .place ≡ getD counts t 0 → ⊥) → threadOf (stateIn l vs ks ths) t .place ≡ length (codeOf (programOf s l) t) → ⊥
   not-at-end n e = n (ap (λ (u : Thread). u .place) (sym thread-first) ∙ e ∙ code-size)
 
   -- the place is that of an instruction
-  pub place-below : (getD ths t nobody .place ≡ getD sizes t 0 → ⊥) → getD ths t nobody .place < getD sizes t 0
+  place-below : (getD ths t nobody .place ≡ getD counts t 0 → ⊥) → getD ths t nobody .place < getD counts t 0
   place-below n = omega (arith, kept .places t h)
 
   -- the instruction there
-  instruction-decoded : (getD ths t nobody .place ≡ getD sizes t 0 → ⊥)
+  instruction-decoded : (getD ths t nobody .place ≡ getD counts t 0 → ⊥)
       → instructionOf (programOf s l) t (stateIn l vs ks ths)
       ≡ decodedInstruction (decodeAt (l .locks) (l .variables) s (getD starts t 0 + 4 * getD ths t nobody .place))
   unfolding instructionOf
   instruction-decoded n =
-      rw (thread-first, prepared .sections t h .code)
-      (getD-instructions (l .locks) (l .variables) s (getD sizes t 0) (getD starts t 0) (getD ths t nobody .place) (place-below n))
+      rw (thread-first, code-located)
+      (getD-instructions (l .locks) (l .variables) s (getD counts t 0) (getD starts t 0) (getD ths t nobody .place) (place-below n))
 
-  pub entry-idle : (m w d : ℕ) (ts : List ℕ) → getD ths t nobody .place ≡ getD sizes t 0
+  pub entry-idle : (m w d : ℕ) (ts : List ℕ) → getD ths t nobody .place ≡ getD counts t 0
       → runFrom (programOf s l) (record { counts = record { moved = m; waiting = w; idle = d }; state = stateIn l vs ks ths }) (t ∷ ts)
       ≡ runFrom (programOf s l) (record { counts = record { moved = m; waiting = w; idle = d + 1 }; state = stateIn l vs ks ths }) ts
   entry-idle m w d ts e = runFrom-idle (programOf s l) t _ ts (at-end e)
 
-  -- the instruction is not at its code's end, and is the one read from the file
-  module _ (i : Instruction)
-      (n : getD ths t nobody .place ≡ getD sizes t 0 → ⊥)
+  -- the thread is not at its code's end, and the instruction is the one read from the file
+  module _ {i : Instruction}
+      (n : getD ths t nobody .place ≡ getD counts t 0 → ⊥)
       (read : i ≡ decodedInstruction (decodeAt (l .locks) (l .variables) s (getD starts t 0 + 4 * getD ths t nobody .place))) where
     instruction-is : instructionOf (programOf s l) t (stateIn l vs ks ths) ≡ i
     instruction-is = instruction-decoded n ∙ sym read
 
-    fields-below-counts : FieldsGood (l .locks) (l .variables) i
-    fields-below-counts = subst (FieldsGood (l .locks) (l .variables)) (sym read)
-        (instruction-fields (l .locks) (l .variables) s (getD starts t 0 + 4 * getD ths t nobody .place))
+    access-below-counts : AccessBelow (l .locks) (l .variables) (accessOf i)
+    access-below-counts =
+        subst (λ (j : Instruction). AccessBelow (l .locks) (l .variables) (accessOf j)) (sym read)
+        (instruction-access (l .locks) (l .variables) s (getD starts t 0 + 4 * getD ths t nobody .place))
 
     -- what the functions that take the instruction ask
-    pub fields-below-limits : FieldsGood lockLimit variableLimit i
-    fields-below-limits = fields-wider (prepared .locks) (prepared .variables) i fields-below-counts
+    pub access-below-limits : AccessBelow lockLimit variableLimit (accessOf i)
+    access-below-limits = access-wider (table .sound .locks) (table .sound .variables) (accessOf i) access-below-counts
 
-    access-below-counts : AccessBelow (l .locks) (l .variables) (accessOf i)
-    access-below-counts = fields-below-counts .1
-
-    pub entry-waiting : (m w d : ℕ) (ts r : List ℕ) → shared (accessOf i) ks vs ≡ Waits
+    pub entry-waiting : (m w d : ℕ) (ts : List ℕ) → waits (accessOf i) ks ≡ true
         → runFrom (programOf s l) (record { counts = record { moved = m; waiting = w; idle = d }; state = stateIn l vs ks ths }) (t ∷ ts)
-        ≡ runFrom (programOf s l) (record {
-          counts = record { moved = m; waiting = w + 1; idle = d };
-          state = stateIn l (variablesAfter (accessOf i) r vs) (locksLeft (accessOf i) t ks) ths;
-        }) ts
-    unfolding locksLeft
-    entry-waiting m w d ts r e =
-        let f = shared-waits (accessOf i) ks vs e in
-        rw (variables-waiting (accessOf i) r ks vs f, f)
-        (runFrom-waiting (programOf s l) t _ ts (not-at-end n)
-        (rw instruction-is (waits-first (l .locks) (l .variables) (accessOf i) ks access-below-counts ∙ f)))
+        ≡ runFrom (programOf s l) (record { counts = record { moved = m; waiting = w + 1; idle = d }; state = stateIn l vs ks ths }) ts
+    entry-waiting m w d ts e =
+        runFrom-waiting (programOf s l) t _ ts (not-at-end n)
+        (rw instruction-is (waits-first (l .locks) (l .variables) (accessOf i) ks access-below-counts ∙ e))
 
-    pub kept-waiting : (r : List ℕ) → shared (accessOf i) ks vs ≡ Waits → Kept l sizes (variablesAfter (accessOf i) r vs) (locksLeft (accessOf i) t ks) ths
-    unfolding locksLeft
-    kept-waiting r e =
-        let f = shared-waits (accessOf i) ks vs e in
-        rw (variables-waiting (accessOf i) r ks vs f, f) kept
-
-    pub entry-moved : (m w d : ℕ) (ts : List ℕ) (x : ℕ) → shared (accessOf i) ks vs ≡ Made x
+    pub entry-moved : (m w d : ℕ) (ts : List ℕ) → waits (accessOf i) ks ≡ false
         → runFrom (programOf s l) (record { counts = record { moved = m; waiting = w; idle = d }; state = stateIn l vs ks ths }) (t ∷ ts)
         ≡ runFrom (programOf s l) (record {
           counts = record { moved = m + 1; waiting = w; idle = d };
-          state = stateIn l (variablesAfter (accessOf i) (getD ths t nobody .registers) vs) (locksLeft (accessOf i) t ks)
-              (set ths t (threadAfter i x (getD ths t nobody)));
+          state = stateIn l (variablesAfter (accessOf i) (getD ths t nobody .registers) vs) (locksAfter (accessOf i) t ks)
+              (set ths t (threadAfter i (valueRead (accessOf i) vs) (getD ths t nobody)));
         }) ts
-    unfolding locksLeft moveBy
-    entry-moved m w d ts x e =
-        let f = shared-made (accessOf i) ks vs x e in
+    unfolding moveBy
+    entry-moved m w d ts e =
         runFrom-moved (programOf s l) t _ ts (not-at-end n)
-        (rw instruction-is (waits-first (l .locks) (l .variables) (accessOf i) ks access-below-counts ∙ f .0))
+        (rw instruction-is (waits-first (l .locks) (l .variables) (accessOf i) ks access-below-counts ∙ e))
         ∙ rw (
           instruction-is,
           thread-first,
-          f .0,
           value-first (l .locks) (l .variables) (accessOf i) vs access-below-counts,
-          f .1,
           variables-first (l .locks) (l .variables) (accessOf i) (getD ths t nobody .registers) vs access-below-counts,
           locks-first (l .locks) (l .variables) (accessOf i) t ks access-below-counts,
-          take-set-lt (l .threads) ths t (threadAfter i x (getD ths t nobody)) h,
+          take-set-lt (l .threads) ths t (threadAfter i (valueRead (accessOf i) vs) (getD ths t nobody)) h,
         )
 
     -- it goes to a place of its code, or to the code's end
-    place-after-in-code : (r : List ℕ) → placeAfter i r (getD ths t nobody .place) ≤ getD sizes t 0
+    place-after-in-code : (r : List ℕ) → placeAfter i r (getD ths t nobody .place) ≤ getD counts t 0
     unfolding instructionOf
     place-after-in-code r =
         let e : getD (codeOf (programOf s l) t) (getD ths t nobody .place) End ≡ i = rw thread-first at instruction-is in
         rw (e, code-size) at
-        (place-inside (codeOf (programOf s l) t) (prepared .sections t h .nested) r (getD ths t nobody .place) (rw code-size (place-below n)))
+        (place-inside (codeOf (programOf s l) t) (rw code-located (table .located t h .nested)) r (getD ths t nobody .place) (rw code-size (place-below n)))
 
-    places-after : (x u : ℕ) → u < l .threads → getD (set ths t (threadAfter i x (getD ths t nobody))) u nobody .place ≤ getD sizes u 0
+    places-after : (x u : ℕ) → u < l .threads → getD (set ths t (threadAfter i x (getD ths t nobody))) u nobody .place ≤ getD counts u 0
     unfolding threadAfter
     places-after x u k =
-        getD-set-holds (λ v (th : Thread). th .place ≤ getD sizes v 0) ths t (threadAfter i x (getD ths t nobody)) nobody
+        getD-set-holds (λ v (th : Thread). th .place ≤ getD counts v 0) ths t (threadAfter i x (getD ths t nobody)) nobody
         (place-after-in-code (getD ths t nobody .registers)) u (kept .places u k)
 
     registers-after : (x : ℕ) → EightRegisters (set ths t (threadAfter i x (getD ths t nobody)))
     unfolding threadAfter EightRegisters
     registers-after x u k =
         getD-set-holds (λ _ (th : Thread). length (th .registers) ≡ registerCount) ths t (threadAfter i x (getD ths t nobody)) nobody
-        (length-registers-after i x (getD ths t nobody .registers) ∙ kept .registers t (omega (arith, prepared .threads))) u (kept .registers u k)
+        (length-registers-after i x (getD ths t nobody .registers) ∙ kept .registers t (omega (arith, table .sound .threads))) u (kept .registers u k)
 
-    pub kept-moved : (x : ℕ) → shared (accessOf i) ks vs ≡ Made x
-        → Kept l sizes (variablesAfter (accessOf i) (getD ths t nobody .registers) vs) (locksLeft (accessOf i) t ks)
-        (set ths t (threadAfter i x (getD ths t nobody)))
-    unfolding locksLeft
-    kept-moved x e = rw (shared-made (accessOf i) ks vs x e .0) record {
+    pub kept-moved : Kept l counts (variablesAfter (accessOf i) (getD ths t nobody .registers) vs) (locksAfter (accessOf i) t ks)
+        (set ths t (threadAfter i (valueRead (accessOf i) vs) (getD ths t nobody)))
+    kept-moved = let x = valueRead (accessOf i) vs in record {
       variables = length-variables-after (accessOf i) (getD ths t nobody .registers) vs ∙ kept .variables;
       locks = length-locks-after (accessOf i) t ks ∙ kept .locks;
       threads = length-set ths t (threadAfter i x (getD ths t nobody)) ∙ kept .threads;

@@ -4,7 +4,9 @@
 --     Block        where a thread stands inside a block
 --     Fields       what a sound file's instruction reaches, and where it goes
 --     Kept         the state in arrays, through one entry
---     Start        the initial values and the code sections, as loops find them
+--     Effect       what an instruction does, as the code says it
+--     Between      the loop over the entries of a list
+--     Start        the initial values, as a loop finds them; the start in arrays
 --     StateBytes   the state's bytes, as loops write them
 --     Shape        how long the lists of a state are, and how many bytes it has
 pub mod Definitions
@@ -12,6 +14,8 @@ pub mod Outcome
 pub mod Block
 pub mod Fields
 pub mod Kept
+pub mod Effect
+pub mod Between
 pub mod Start
 pub mod StateBytes
 pub mod Shape

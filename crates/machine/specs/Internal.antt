@@ -1,5 +1,5 @@
 -- What only proofs and the contracts of inner functions use.
---     Reached  what a shared access finds and leaves
---     Kept     the state in arrays, and where each thread's code lies
-pub mod Reached
+--     Effect   what an instruction does, as the code says it
+--     Kept     the state in arrays
+pub mod Effect
 pub mod Kept

@@ -58,23 +58,37 @@ locksAfter (gives k) t locks = set locks k 0
 abbrev pub reg : List ℕ → ℕ → ℕ
 reg registers a = getD registers a 0
 
--- the registers afterwards, where a READ finds this value ("The file": the table; "modulo 2^32"; "SUB takes c from b")
+-- what an instruction leaves in the registers: all as they were, or this value in one
+pub data Result : Type 0 where
+  keeps : Result
+  puts : (a x : ℕ) → Result
+
+-- the result, where a READ finds this value ("The file": the table; "modulo 2^32"; "SUB takes c from b")
+unfoldable pub resultOf : Instruction → (value : ℕ) → List ℕ → Result
+resultOf (Set a n) x r = puts a n
+resultOf (Copy a b) x r = puts a (reg r b)
+resultOf (Add a b c) x r = puts a ((reg r b + reg r c) % 2 ^ 32)
+resultOf (Sub a b c) x r = puts a ((reg r b + (2 ^ 32 - reg r c)) % 2 ^ 32)
+resultOf (Less a b c) x r = puts a (choose (ltb (reg r b) (reg r c)) 1 0)
+resultOf (Read a v) x r = puts a x
+resultOf (Write a v) x r = keeps
+resultOf (Take k) x r = keeps
+resultOf (Give k) x r = keeps
+resultOf (If a n) x r = keeps
+resultOf (Else n) x r = keeps
+resultOf (While a n) x r = keeps
+resultOf (Again n) x r = keeps
+resultOf (Atomic n) x r = keeps
+resultOf End x r = keeps
+
+-- the registers with a result stored
+unfoldable pub stored : Result → List ℕ → List ℕ
+stored keeps r = r
+stored (puts a x) r = set r a x
+
+-- the registers afterwards
 unfoldable pub registersAfter : Instruction → (value : ℕ) → List ℕ → List ℕ
-registersAfter (Set a n) x r = set r a n
-registersAfter (Copy a b) x r = set r a (reg r b)
-registersAfter (Add a b c) x r = set r a ((reg r b + reg r c) % 2 ^ 32)
-registersAfter (Sub a b c) x r = set r a ((reg r b + (2 ^ 32 - reg r c)) % 2 ^ 32)
-registersAfter (Less a b c) x r = set r a (choose (ltb (reg r b) (reg r c)) 1 0)
-registersAfter (Read a v) x r = set r a x
-registersAfter (Write a v) x r = r
-registersAfter (Take k) x r = r
-registersAfter (Give k) x r = r
-registersAfter (If a n) x r = r
-registersAfter (Else n) x r = r
-registersAfter (While a n) x r = r
-registersAfter (Again n) x r = r
-registersAfter (Atomic n) x r = r
-registersAfter End x r = r
+registersAfter i x r = stored (resultOf i x r) r
 
 -- "IF and WHILE go to the next place if the register is not 0, else one past the named place. ELSE goes to its END. AGAIN goes to its
 -- WHILE. All others go to the next place"

@@ -1,5 +1,5 @@
 // The step machine (document 01, "The step machine").
-pub mod entry;
+pub mod moves;
 pub mod prepare;
 pub mod run;
 pub mod state_bytes;

@@ -2,7 +2,7 @@
 --     Definitions  the definitions of the printout open
 --     Stored       runs of stores into a buffer, and lines as runs of words
 --     Digits       hexadecimal and decimal digits
---     Parts        the lines by index, and how a walk over the code sections finds them
+--     Parts        the lines by index, and by the table of sections
 --     Report       what stands after the report in a longer array changes no line
 pub mod Definitions
 pub mod Stored

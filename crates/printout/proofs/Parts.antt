@@ -1,22 +1,17 @@
 -- Laws of the lines by index. Assumes nothing. One kind's lines:
 --     length-code-lines, getD-code-lines, length-variable-lines, getD-variable-lines, length-whole-lines
 --                            how many there are, and each of them
--- The lines of a thread's code section, with those of the sections after it and others behind:
---     thread-first           the first line, the thread's
---     thread-code            an instruction's
---     thread-after           those of the sections after it
--- A walk over the code sections (`Walk`):
---     file-instructions-few  a sound file has no more instructions than a program may have
---     walk-start, walk-next, walk-end
---                            at the first section, one section on, past the last
---     walk-section           the section where it stands is sound
---     walk-report-inside     the section's report lies in the report
---     lines-thread, lines-code, lines-next, lines-done
---                            the lines from there on: the thread's, an instruction's, those from the next section on; after the last, the wholes'
---     wholes-thread, wholes-next
---                            the wholes' lines from there on: the thread's, those from the next section on
---     lines-start, wholes-start
---                            from the first section on, they are all of them
+-- The codes' lines, by how many instructions each code has:
+--     Counts                 the table has how many that is
+--     sections-from, wholes-from
+--                            the lines from one code's on are those of the codes from it on
+--     section-thread, section-code, whole-thread
+--                            a thread's line, an instruction's, a whole's
+--     reportSize, report-size
+--                            how many lines, and report bytes, the codes have
+-- The lines after the variables', by the table of sections:
+--     item-thread, item-code, item-whole
+--                            a thread's, an instruction's, a whole's
 -- All lines by their parts:
 --     line-head, line-variable, line-item
 --                            a line of the head, of a variable, and one behind those
@@ -24,25 +19,26 @@
 use mathlib.Core.Path.{_≡_, refl, sym, ap, _∙_}
 use mathlib.Core.List.{List, [], _∷_, _++_, append-assoc}
 use Prim.Native.Nat.{ℕ, zero, suc, _+_, _-_, _*_, _≤_, _<_}
-use native.Mathlib.Nat.{sub-zero, add-zero, zero-add}
+use native.Mathlib.Nat.{add-zero, zero-add}
 use native.Mathlib.Numerals.{add-one, one-add}
 use native.Mathlib.Omega.{arith}
 use lib.ListN.{length, getD, drop, length-append, List·getD-append}
-use lib.Seq.{getD-append-add, getD-drop, drop-drop}
+use lib.Seq.{getD-append-add, getD-drop, drop-drop, drop-cons, drop-at}
 use Rattle.program.specs.Instruction.{decodeAt, decodedInstruction}
-use Rattle.program.specs.Layout.{CodeSection, instructionsAt, codesAt, variablesAt, programOf}
+use Rattle.program.specs.Layout.{CodeSection, codesAt, variablesAt, programOf}
 use Rattle.program.specs.Limits.{recordsStart, recordOffset}
-use Rattle.program.specs.Internal.Bounds.{programLimit, lineCount}
-use Rattle.program.specs.Internal.Sound.{SoundSection, SoundSections, SoundFile, countAt}
+use Rattle.program.specs.Internal.Bounds.{lineCount}
+use Rattle.program.specs.Internal.Sections.{SectionTable, noSection, bytesBefore}
+use Rattle.program.specs.Internal.Sound.{SoundSections, SoundFile, countAt}
 use Rattle.program.specs.Variable.{Variable, variableAt}
 use Rattle.program.specs.declared.instruction.Instruction.{Instruction}
 use Rattle.program.specs.declared.instruction.Instruction.the-variants.{End}
 use Rattle.program.specs.declared.layout.Layout.{Layout}
-use Rattle.program.proofs.Sound
+use Rattle.program.proofs.SectionTable.{report-inside}
 use Rattle.program.proofs.Contents.{length-instructions, getD-instructions, length-variables, getD-variables, length-codes}
 use Rattle.printout.specs.Line.{instructionLine, codeLines, sectionLines, wholeLines, variableLine, variableLines, lines}
-use Rattle.printout.specs.Internal.Item.{variablesLine, threadLine, headLines, itemLines, itemLine, wholeLine, Walk, linesFrom, wholesFrom}
-use Rattle.printout.specs.declared.print.Item.the-variants.{Thread, Code}
+use Rattle.printout.specs.Internal.Item.{variablesLine, threadLine, headLines, itemLines, wholeLine, ItemAt}
+use Rattle.printout.specs.declared.print.Item.the-variants.{Thread, Code, Whole}
 
 -- One kind's lines
 
@@ -80,154 +76,177 @@ unfolding wholeLines
 length-whole-lines t [] report = refl
 length-whole-lines t (c ∷ cs) report = ap suc (length-whole-lines (suc t) cs (drop (length (c .code) + 1) report))
 
--- The lines of one thread among those after it
+-- The codes' lines: a code has as many as report bytes
 
-module _ (locks variables : ℕ) (s : List ℕ) (n t at : ℕ) (report : List ℕ) (others : List (List ℕ)) where
-  -- the thread's code, its lines, and those of the sections after it
-  threadCode : List Instruction
-  threadCode = instructionsAt locks variables s (countAt s at) (at + 2)
+abbrev codeAt : List CodeSection → ℕ → CodeSection
+codeAt codes c = getD codes c noSection
 
-  laterLines : List (List ℕ)
-  laterLines = sectionLines s (suc t) (codesAt locks variables s n (at + 2 + 4 * countAt s at)) (drop (length threadCode + 1) report)
+-- the table has how many instructions each code has
+abbrev Counts : List CodeSection → List ℕ → Type 0
+Counts codes counts = (c : ℕ) → c < length codes → length (codeAt codes c .code) ≡ getD counts c 0
 
-  threadCodeLines : List (List ℕ)
-  threadCodeLines = codeLines s (at + 2) 0 threadCode report
+module _ (s : List ℕ) (codes : List CodeSection) (counts report : List ℕ) (counted : Counts codes counts) where
+  -- past code c's report
+  report-past : (c : ℕ) → c < length codes
+      → drop (length (codeAt codes c .code) + 1) (drop (bytesBefore counts c) report) ≡ drop (bytesBefore counts (suc c)) report
+  unfolding bytesBefore
+  report-past c h =
+      let e : bytesBefore counts c + (length (codeAt codes c .code) + 1) ≡ bytesBefore counts c + getD counts c 0 + 1 = omega (arith, counted c h) in
+      drop-drop _ (bytesBefore counts c) report ∙ ap (λ (n : ℕ). drop n report) e
 
-  length-thread-code : length threadCodeLines ≡ countAt s at
-  unfolding threadCodeLines threadCode
-  length-thread-code = length-code-lines s (at + 2) 0 threadCode report ∙ length-instructions locks variables s (countAt s at) (at + 2)
+  -- code c's lines, and those of the codes after it
+  sections-at : (c : ℕ) → c < length codes
+      → sectionLines s c (drop c codes) (drop (bytesBefore counts c) report)
+      ≡ threadLine s (codeAt codes c .start - 2) c (length (codeAt codes c .code))
+      ∷ codeLines s (codeAt codes c .start) 0 (codeAt codes c .code) (drop (bytesBefore counts c) report)
+      ++ sectionLines s (suc c) (drop (suc c) codes) (drop (bytesBefore counts (suc c)) report)
+  unfolding sectionLines threadLine
+  sections-at c h = rw (drop-cons codes c noSection h, report-past c h)
 
-  pub thread-first : getD (sectionLines s t (codesAt locks variables s (suc n) at) report ++ others) 0 []
-      ≡ threadLine s at t (countAt s at)
-  unfolding sectionLines codesAt threadLine
-  thread-first =
-      let e : at + 2 - 2 ≡ at = omega arith in
-      rw (e, length-instructions locks variables s (countAt s at) (at + 2))
+  wholes-at : (c : ℕ) → c < length codes
+      → wholeLines c (drop c codes) (drop (bytesBefore counts c) report)
+      ≡ wholeLine c (bytesBefore counts c + getD counts c 0) report
+      ∷ wholeLines (suc c) (drop (suc c) codes) (drop (bytesBefore counts (suc c)) report)
+  unfolding wholeLines wholeLine
+  wholes-at c h = rw (drop-cons codes c noSection h, report-past c h, counted c h, getD-drop (bytesBefore counts c) report (getD counts c 0) 0)
 
-  pub thread-code : (place : ℕ) → place < countAt s at → getD (sectionLines s t (codesAt locks variables s (suc n) at) report ++ others) (suc place) []
-      ≡ instructionLine s (at + 2 + 4 * place) place (decodedInstruction (decodeAt locks variables s (at + 2 + 4 * place))) (getD report place 0)
-  unfolding sectionLines codesAt threadCode threadCodeLines laterLines
-  thread-code place h =
-      let inCode : place < length threadCodeLines = omega (arith, length-thread-code) in
-      let inIs : place < length threadCode = omega (arith, length-instructions locks variables s (countAt s at) (at + 2)) in
-      let e : getD threadCode place End ≡ decodedInstruction (decodeAt locks variables s (at + 2 + 4 * place)) = getD-instructions locks variables s (countAt s at) (at + 2) place h in
-      List·getD-append (threadCodeLines ++ laterLines) others [] place (omega (arith, length-append threadCodeLines laterLines))
-      ∙ List·getD-append threadCodeLines laterLines [] place inCode
-      ∙ getD-code-lines s (at + 2) 0 threadCode report place inIs
-      ∙ ap (λ (m : ℕ). instructionLine s (at + 2 + 4 * place) m (getD threadCode place End) (getD report place 0)) (zero-add place)
-      ∙ ap (λ (i : Instruction). instructionLine s (at + 2 + 4 * place) place i (getD report place 0)) e
+  -- the lines from code c's on are those of the codes from c on
+  sections-from : (c : ℕ) → c ≤ length codes
+      → drop (bytesBefore counts c) (sectionLines s 0 codes report) ≡ sectionLines s c (drop c codes) (drop (bytesBefore counts c) report)
+  unfolding bytesBefore
+  sections-from zero h = refl
+  sections-from (suc c) h =
+      let n : ℕ = getD counts c 0 in
+      let x = codeAt codes c in
+      let own : List (List ℕ) = codeLines s (x .start) 0 (x .code) (drop (bytesBefore counts c) report) in
+      let next : List (List ℕ) = sectionLines s (suc c) (drop (suc c) codes) (drop (bytesBefore counts (suc c)) report) in
+      let e : bytesBefore counts c + n + 1 ≡ bytesBefore counts c + suc n = omega arith in
+      ap (λ (m : ℕ). drop m (sectionLines s 0 codes report)) e
+      ∙ sym (drop-drop (suc n) (bytesBefore counts c) (sectionLines s 0 codes report))
+      ∙ ap (drop (suc n)) (sections-from c (omega arith) ∙ sections-at c h)
+      ∙ drop-at own next n (length-code-lines s (x .start) 0 (x .code) (drop (bytesBefore counts c) report) ∙ counted c h)
 
-  pub thread-after : (j : ℕ) → getD (sectionLines s t (codesAt locks variables s (suc n) at) report ++ others) (suc (countAt s at + j)) []
-      ≡ getD (sectionLines s (suc t) (codesAt locks variables s n (at + 2 + 4 * countAt s at)) (drop (countAt s at + 1) report) ++ others) j []
-  unfolding sectionLines codesAt threadCode threadCodeLines laterLines
-  thread-after j =
-      ap (λ (xs : List (List ℕ)). getD xs (countAt s at + j) []) (append-assoc threadCodeLines laterLines others)
-      ∙ ap (λ (m : ℕ). getD (threadCodeLines ++ (laterLines ++ others)) (m + j) []) (sym length-thread-code)
-      ∙ getD-append-add threadCodeLines (laterLines ++ others) j []
-      ∙ ap (λ (m : ℕ). getD (sectionLines s (suc t) (codesAt locks variables s n (at + 2 + 4 * countAt s at)) (drop (m + 1) report) ++ others) j []) (length-instructions locks variables s (countAt s at) (at + 2))
+  wholes-from : (c : ℕ) → c ≤ length codes → drop c (wholeLines 0 codes report) ≡ wholeLines c (drop c codes) (drop (bytesBefore counts c) report)
+  unfolding bytesBefore
+  wholes-from zero h = refl
+  wholes-from (suc c) h =
+      ap (λ (m : ℕ). drop m (wholeLines 0 codes report)) (sym (add-one c))
+      ∙ sym (drop-drop 1 c (wholeLines 0 codes report))
+      ∙ ap (drop 1) (wholes-from c (omega arith) ∙ wholes-at c h)
 
--- A walk over the code sections
+  -- line j of code c's
+  section-line : (c : ℕ) → c < length codes → (j : ℕ)
+      → getD (sectionLines s 0 codes report) (bytesBefore counts c + j) [] ≡ getD (sectionLines s c (drop c codes) (drop (bytesBefore counts c) report)) j []
+  section-line c h j =
+      sym (getD-drop (bytesBefore counts c) (sectionLines s 0 codes report) j [])
+      ∙ ap (λ (xs : List (List ℕ)). getD xs j []) (sections-from c (omega arith))
 
--- a sound file's instructions are few
-pub file-instructions-few : {s : List ℕ} {l : Layout} → SoundFile s l → l .instructions ≤ programLimit
-file-instructions-few {s} {l} f =
-    omega (arith, Sound.instructions-few s (l .locks) (l .variables) (l .threads) (recordOffset (l .variables)) (l .instructions) (f .sections), f .threads)
+  -- thread c's, and its instructions'
+  section-thread : (c : ℕ) → c < length codes → getD (sectionLines s 0 codes report) (bytesBefore counts c) []
+      ≡ threadLine s (codeAt codes c .start - 2) c (length (codeAt codes c .code))
+  section-thread c h =
+      ap (λ (n : ℕ). getD (sectionLines s 0 codes report) n []) (sym (add-zero (bytesBefore counts c))) ∙ section-line c h 0
+      ∙ ap (λ (xs : List (List ℕ)). getD xs 0 []) (sections-at c h)
 
--- where it starts
-pub walk-start : (s : List ℕ) (l : Layout) → SoundFile s l → Walk s l 0 (recordOffset (l .variables)) 0
-walk-start s l f = record {
-  left = l .instructions;
-  sections = rw (sub-zero (l .threads)) (f .sections);
-  total = rw (sub-zero (l .threads)) (omega arith);
-  within = omega arith;
-}
+  section-code : (c : ℕ) → c < length codes → (place : ℕ) → place < length (codeAt codes c .code)
+      → getD (sectionLines s 0 codes report) (bytesBefore counts c + suc place) []
+      ≡ instructionLine s (codeAt codes c .start + 4 * place) place (getD (codeAt codes c .code) place End) (getD report (bytesBefore counts c + place) 0)
+  section-code c h place b =
+      let x = codeAt codes c in
+      let own = drop (bytesBefore counts c) report in
+      section-line c h (suc place)
+      ∙ ap (λ (xs : List (List ℕ)). getD xs (suc place) []) (sections-at c h)
+      ∙ List·getD-append (codeLines s (x .start) 0 (x .code) own) _ [] place (omega (arith, length-code-lines s (x .start) 0 (x .code) own))
+      ∙ getD-code-lines s (x .start) 0 (x .code) own place b
+      ∙ rw (zero-add place, getD-drop (bytesBefore counts c) report place 0)
 
--- one thread fewer is left
-threads-left : (n t : ℕ) → t < n → n - t ≡ suc (n - (t + 1))
-threads-left n t h = omega arith
+  -- thread c's whole
+  whole-thread : (c : ℕ) → c < length codes → getD (wholeLines 0 codes report) c [] ≡ wholeLine c (bytesBefore counts c + getD counts c 0) report
+  whole-thread c h =
+      ap (λ (n : ℕ). getD (wholeLines 0 codes report) n []) (sym (add-zero c))
+      ∙ sym (getD-drop c (wholeLines 0 codes report) 0 [])
+      ∙ ap (λ (xs : List (List ℕ)). getD xs 0 []) (wholes-from c (omega arith) ∙ wholes-at c h)
 
--- past a thread's report
-drop-past : (from count : ℕ) (report : List ℕ) → drop (count + 1) (drop from report) ≡ drop (from + count + 1) report
-drop-past from count report =
-    let e : from + (count + 1) ≡ from + count + 1 = omega arith in
-    drop-drop (count + 1) from report ∙ ap (λ (n : ℕ). drop n report) e
+-- How many lines the codes have
 
-module _ {s : List ℕ} {l : Layout} {t at from : ℕ} where
-  -- the section where it stands
-  pub walk-section : Walk s l t at from → t < l .threads → SoundSection s (l .locks) (l .variables) at
-  walk-section w h = let x = rw (threads-left (l .threads) t h) at (w .sections) in x .1
+-- one for each instruction, and one for the thread: as many as report bytes
+unfoldable pub reportSize : List CodeSection → ℕ
+reportSize [] = 0
+reportSize (x ∷ xs) = length (x .code) + 1 + reportSize xs
 
-  -- its report lies in the report
-  pub walk-report-inside : Walk s l t at from → t < l .threads → from + countAt s at < l .instructions + l .threads
-  walk-report-inside w h =
-      let x = rw (threads-left (l .threads) t h) at (w .sections) in
-      omega (arith, x .2, w .total, threads-left (l .threads) t h)
+length-section-lines : (s : List ℕ) (c : ℕ) (codes : List CodeSection) (report : List ℕ) → length (sectionLines s c codes report) ≡ reportSize codes
+unfolding sectionLines reportSize
+length-section-lines s c [] report = refl
+length-section-lines s c (x ∷ xs) report =
+    let after : List ℕ = drop (length (x .code) + 1) report in
+    let own : List (List ℕ) = codeLines s (x .start) 0 (x .code) report in
+    omega (arith, length-append own (sectionLines s (suc c) xs after), length-code-lines s (x .start) 0 (x .code) report, length-section-lines s (suc c) xs after)
 
-  -- the next section
-  pub walk-next : Walk s l t at from → t < l .threads → Walk s l (t + 1) (at + 2 + 4 * countAt s at) (from + countAt s at + 1)
-  walk-next w h =
-      let x = rw (threads-left (l .threads) t h) at (w .sections) in
-      record { left = x .0; sections = x .3; total = omega (arith, x .2, w .total, threads-left (l .threads) t h); within = omega arith }
+sections-size : (s : List ℕ) (locks variables n at m : ℕ) → SoundSections s locks variables n at m → reportSize (codesAt locks variables s n at) ≡ m + n
+unfolding reportSize codesAt
+sections-size s locks variables zero at m x = omega (arith, x .1)
+sections-size s locks variables (suc n) at m x =
+    omega (arith, length-instructions locks variables s (countAt s at) (at + 2), sections-size s locks variables n (at + 2 + 4 * countAt s at) (x .0) (x .3), x .2)
 
-  -- where it ends
-  pub walk-end : Walk s l t at from → l .threads ≤ t → from ≡ l .instructions + l .threads
-  walk-end w h =
-      let e : l .threads - t ≡ 0 = omega arith in
-      let x = rw e at (w .sections) in
-      omega (arith, x .1, w .total, e)
+pub report-size : (s : List ℕ) (l : Layout) → SoundFile s l → reportSize (programOf s l .codes) ≡ l .instructions + l .threads
+unfolding programOf
+report-size s l f = sections-size s (l .locks) (l .variables) (l .threads) (recordOffset (l .variables)) (l .instructions) (f .sections)
 
-module _ (s : List ℕ) (l : Layout) (report : List ℕ) (t at from : ℕ) where
-  -- the lines from the walk's place on: the thread's, an instruction's, those of the threads after it
-  pub lines-thread : t < l .threads → getD (linesFrom s l report t at from) 0 [] ≡ itemLine s l report (Thread t at)
-  unfolding linesFrom itemLine
-  lines-thread h =
-      rw (threads-left (l .threads) t h)
-      (thread-first (l .locks) (l .variables) s (l .threads - (t + 1)) t at (drop from report) (wholeLines 0 (programOf s l .codes) report))
+codes-length : (s : List ℕ) (l : Layout) → length (programOf s l .codes) ≡ l .threads
+unfolding programOf
+codes-length s l = length-codes (l .locks) (l .variables) s (l .threads) (recordOffset (l .variables))
 
-  pub lines-code : t < l .threads → (place : ℕ) → place < countAt s at
-      → getD (linesFrom s l report t at from) (suc place) [] ≡ itemLine s l report (Code (at + 2 + 4 * place) place (from + place))
-  unfolding linesFrom itemLine
-  lines-code h place b =
-      rw (threads-left (l .threads) t h, ← getD-drop from report place 0)
-      (thread-code (l .locks) (l .variables) s (l .threads - (t + 1)) t at (drop from report) (wholeLines 0 (programOf s l .codes) report) place b)
+-- The lines after the variables', by the table of sections
 
-  pub lines-next : t < l .threads → (j : ℕ)
-      → getD (linesFrom s l report t at from) (suc (countAt s at + j)) []
-      ≡ getD (linesFrom s l report (t + 1) (at + 2 + 4 * countAt s at) (from + countAt s at + 1)) j []
-  unfolding linesFrom
-  lines-next h j =
-      rw (threads-left (l .threads) t h, add-one t, ← drop-past from (countAt s at) report)
-      (thread-after (l .locks) (l .variables) s (l .threads - suc t) t at (drop from report) (wholeLines 0 (programOf s l .codes) report) j)
+module _ {s : List ℕ} {l : Layout} {starts counts : List ℕ} (x : SectionTable s l starts counts) (report : List ℕ) where
+  codes-counted : Counts (programOf s l .codes) counts
+  codes-counted c h =
+      let at = x .located c (omega (arith, codes-length s l)) in
+      ap (λ (y : CodeSection). length (y .code)) (at .section) ∙ length-instructions (l .locks) (l .variables) s (getD counts c 0) (getD starts c 0)
 
-  -- after the last thread: the wholes'
-  pub lines-done : l .threads ≤ t → linesFrom s l report t at from ≡ wholeLines 0 (programOf s l .codes) report
-  unfolding linesFrom sectionLines codesAt
-  lines-done h =
-      let e : l .threads - t ≡ 0 = omega arith in
-      rw e
+  codes-lines : length (sectionLines s 0 (programOf s l .codes) report) ≡ bytesBefore counts (l .threads)
+  codes-lines = length-section-lines s 0 (programOf s l .codes) report ∙ report-size s l (x .sound) ∙ sym (x .total)
 
-  -- the wholes' lines from the walk's place on: the thread's, those of the threads after it
-  pub wholes-thread : t < l .threads → getD (wholesFrom s l report t at from) 0 [] ≡ wholeLine t (from + countAt s at) report
-  unfolding wholesFrom wholeLine wholeLines codesAt
-  wholes-thread h =
-      rw (threads-left (l .threads) t h, length-instructions (l .locks) (l .variables) s (countAt s at) (at + 2), getD-drop from report (countAt s at) 0)
+  -- one of the codes'
+  item-of-codes : (i : ℕ) → i < bytesBefore counts (l .threads) → getD (itemLines s l report) i [] ≡ getD (sectionLines s 0 (programOf s l .codes) report) i []
+  unfolding itemLines
+  item-of-codes i h = List·getD-append (sectionLines s 0 (programOf s l .codes) report) (wholeLines 0 (programOf s l .codes) report) [] i (omega (arith, codes-lines))
 
-  pub wholes-next : t < l .threads → (j : ℕ)
-      → getD (wholesFrom s l report t at from) (suc j) [] ≡ getD (wholesFrom s l report (t + 1) (at + 2 + 4 * countAt s at) (from + countAt s at + 1)) j []
-  unfolding wholesFrom wholeLines codesAt
-  wholes-next h j =
-      rw (threads-left (l .threads) t h, length-instructions (l .locks) (l .variables) s (countAt s at) (at + 2), drop-past from (countAt s at) report, add-one t)
+  module _ (i t : ℕ) where
+    -- there is such a code
+    inCodes : t < l .threads → t < length (programOf s l .codes)
+    inCodes h = omega (arith, codes-length s l)
+
+    pub item-thread : ItemAt counts (l .threads) i (Thread t) → threadLine s (getD starts t 0 - 2) t (getD counts t 0) ≡ getD (itemLines s l report) i []
+    item-thread (h, e) = sym (
+        item-of-codes i (omega (arith, report-inside x t h, x .total))
+        ∙ ap (λ (n : ℕ). getD (sectionLines s 0 (programOf s l .codes) report) n []) e
+        ∙ section-thread s (programOf s l .codes) counts report codes-counted t (inCodes h)
+        ∙ rw (x .located t h .section, length-instructions (l .locks) (l .variables) s (getD counts t 0) (getD starts t 0))
+        )
+
+    pub item-code : (place : ℕ) → ItemAt counts (l .threads) i (Code t place)
+        → instructionLine s (getD starts t 0 + 4 * place) place (decodedInstruction (decodeAt (l .locks) (l .variables) s (getD starts t 0 + 4 * place))) (getD report (bytesBefore counts t + place) 0)
+        ≡ getD (itemLines s l report) i []
+    item-code place (h, b, e) = sym (
+        item-of-codes i (omega (arith, report-inside x t h, x .total))
+        ∙ ap (λ (n : ℕ). getD (sectionLines s 0 (programOf s l .codes) report) n []) e
+        ∙ section-code s (programOf s l .codes) counts report codes-counted t (inCodes h) place (omega (arith, codes-counted t (inCodes h)))
+        ∙ rw (x .located t h .section, getD-instructions (l .locks) (l .variables) s (getD counts t 0) (getD starts t 0) place b)
+        )
+
+    pub item-whole : ItemAt counts (l .threads) i (Whole t) → wholeLine t (bytesBefore counts t + getD counts t 0) report ≡ getD (itemLines s l report) i []
+    unfolding itemLines
+    item-whole (h, e) =
+        let codes = programOf s l .codes in
+        let past : i ≡ length (sectionLines s 0 codes report) + t = omega (arith, codes-lines) in
+        sym (
+        ap (λ (n : ℕ). getD (sectionLines s 0 codes report ++ wholeLines 0 codes report) n []) past
+        ∙ getD-append-add (sectionLines s 0 codes report) (wholeLines 0 codes report) t []
+        ∙ whole-thread s codes counts report codes-counted t (inCodes h)
+        )
 
 module _ (s : List ℕ) (l : Layout) (report : List ℕ) where
-  -- from the first thread on: all of them
-  pub lines-start : linesFrom s l report 0 (recordOffset (l .variables)) 0 ≡ itemLines s l report
-  unfolding linesFrom itemLines programOf
-  lines-start = rw (sub-zero (l .threads))
-
-  pub wholes-start : wholesFrom s l report 0 (recordOffset (l .variables)) 0 ≡ wholeLines 0 (programOf s l .codes) report
-  unfolding wholesFrom programOf
-  wholes-start = rw (sub-zero (l .threads))
-
   -- All lines by their parts
 
   lines-parts : lines s (programOf s l) report ≡ headLines s (l .variables) ++ (variableLines s 0 (programOf s l .variables) ++ itemLines s l report)
@@ -248,56 +267,37 @@ module _ (s : List ℕ) (l : Layout) (report : List ℕ) where
       ∙ List·getD-append (headLines s (l .variables)) (variableLines s 0 (programOf s l .variables) ++ itemLines s l report) [] i h
 
   -- a line past the head's
-  past-head : (j : ℕ) → getD (lines s (programOf s l) report) (4 + j) [] ≡ getD (variableLines s 0 (programOf s l .variables) ++ itemLines s l report) j []
+  past-head : (i j : ℕ) → i ≡ 4 + j → getD (lines s (programOf s l) report) i [] ≡ getD (variableLines s 0 (programOf s l .variables) ++ itemLines s l report) j []
   unfolding headLines
-  past-head j =
-      ap (λ (xs : List (List ℕ)). getD xs (4 + j) []) lines-parts
+  past-head i j e =
+      ap (λ (n : ℕ). getD (lines s (programOf s l) report) n []) e
+      ∙ ap (λ (xs : List (List ℕ)). getD xs (4 + j) []) lines-parts
       ∙ getD-append-add (headLines s (l .variables)) (variableLines s 0 (programOf s l .variables) ++ itemLines s l report) j []
 
   -- a variable's
-  pub line-variable : (v : ℕ) → v < l .variables
-      → getD (lines s (programOf s l) report) (4 + v) [] ≡ variableLine s v (variableAt (l .locks) (l .threads) s (recordOffset v))
+  pub line-variable : (i v : ℕ) → i ≡ 4 + v → v < l .variables
+      → getD (lines s (programOf s l) report) i [] ≡ variableLine s v (variableAt (l .locks) (l .threads) s (recordOffset v))
   unfolding programOf
-  line-variable v h =
+  line-variable i v e h =
       let xs : List Variable = variablesAt (l .locks) (l .threads) s (l .variables) recordsStart in
       let d : Variable = variableAt (l .locks) (l .threads) s 0 in
-      past-head v
+      past-head i v e
       ∙ List·getD-append (variableLines s 0 (programOf s l .variables)) (itemLines s l report) [] v (omega (arith, length-variable-part))
       ∙ getD-variable-lines s 0 xs d v (omega (arith, length-variables (l .locks) (l .threads) s (l .variables) recordsStart))
       ∙ ap (λ (n : ℕ). variableLine s n (getD xs v d)) (zero-add v)
       ∙ ap (variableLine s v) (getD-variables (l .locks) (l .threads) s (l .variables) recordsStart v d h)
 
   -- one after those
-  pub line-item : (j : ℕ) → getD (lines s (programOf s l) report) (4 + (l .variables + j)) [] ≡ getD (itemLines s l report) j []
-  line-item j =
-      past-head (l .variables + j)
+  pub line-item : (i j : ℕ) → i ≡ 4 + (l .variables + j) → getD (lines s (programOf s l) report) i [] ≡ getD (itemLines s l report) j []
+  line-item i j e =
+      past-head i (l .variables + j) e
       ∙ ap (λ (n : ℕ). getD (variableLines s 0 (programOf s l .variables) ++ itemLines s l report) (n + j) []) (sym length-variable-part)
       ∙ getD-append-add (variableLines s 0 (programOf s l .variables)) (itemLines s l report) j []
-
--- How many lines there are
-
-length-thread-lines : (s : List ℕ) (locks variables n t at m : ℕ) (report : List ℕ) → SoundSections s locks variables n at m
-    → length (sectionLines s t (codesAt locks variables s n at) report) ≡ m + n
-unfolding sectionLines codesAt
-length-thread-lines s locks variables zero t at m report x = omega (arith, x .1)
-length-thread-lines s locks variables (suc n) t at m report x =
-    let is : List Instruction = instructionsAt locks variables s (countAt s at) (at + 2) in
-    let code : List (List ℕ) = codeLines s (at + 2) 0 is report in
-    let rest : List CodeSection = codesAt locks variables s n (at + 2 + 4 * countAt s at) in
-    let after : List ℕ = drop (length is + 1) report in
-    omega (
-      arith,
-      length-append code (sectionLines s (suc t) rest after),
-      length-code-lines s (at + 2) 0 is report,
-      length-instructions locks variables s (countAt s at) (at + 2),
-      length-thread-lines s locks variables n (suc t) (at + 2 + 4 * countAt s at) (x .0) after (x .3),
-      x .2,
-    )
 
 -- "line count"
 pub length-lines : (s : List ℕ) (l : Layout) (report : List ℕ) → SoundFile s l
     → length (lines s (programOf s l) report) ≡ lineCount (l .variables) (l .threads) (l .instructions)
-unfolding headLines itemLines programOf
+unfolding headLines itemLines
 length-lines s l report f =
     let vs : List (List ℕ) = variableLines s 0 (programOf s l .variables) in
     let ts : List (List ℕ) = sectionLines s 0 (programOf s l .codes) report in
@@ -308,7 +308,8 @@ length-lines s l report f =
       length-append vs (ts ++ ws),
       length-append ts ws,
       length-variable-part s l report,
-      length-thread-lines s (l .locks) (l .variables) (l .threads) 0 (recordOffset (l .variables)) (l .instructions) report (f .sections),
+      length-section-lines s 0 (programOf s l .codes) report,
+      report-size s l f,
       length-whole-lines 0 (programOf s l .codes) report,
-      length-codes (l .locks) (l .variables) s (l .threads) (recordOffset (l .variables)),
+      codes-length s l,
     )

@@ -2,17 +2,16 @@
 --     lines-report   what stands after the report changes no line
 use mathlib.Core.Path.{_≡_, refl}
 use mathlib.Core.List.{List, [], _∷_, _++_}
-use Prim.Native.Nat.{ℕ, zero, suc, _+_, _*_, _≤_}
+use Prim.Native.Nat.{ℕ, suc, _+_, _≤_}
 use native.Mathlib.Omega.{arith}
 use lib.ListN.{length, drop, length-drop, List·getD-append}
 use lib.Seq.{drop-append-le}
-use Rattle.program.specs.Layout.{instructionsAt, codesAt, programOf}
-use Rattle.program.specs.Limits.{recordOffset}
-use Rattle.program.specs.Internal.Sound.{SoundSections, SoundFile, countAt}
+use Rattle.program.specs.Layout.{CodeSection, programOf}
+use Rattle.program.specs.Internal.Sound.{SoundFile}
 use Rattle.program.specs.declared.instruction.Instruction.{Instruction}
 use Rattle.program.specs.declared.layout.Layout.{Layout}
-use Rattle.program.proofs.Contents.{length-instructions}
 use Rattle.printout.specs.Line.{codeLines, sectionLines, wholeLines, lines}
+use Rattle.printout.proofs.Parts.{reportSize, report-size}
 
 -- the lines of code
 code-report : (s : List ℕ) (at place : ℕ) (is : List Instruction) (report rest : List ℕ) → length is ≤ length report
@@ -22,41 +21,37 @@ code-report s at place [] report rest h = refl
 code-report s at place (i ∷ is) [] rest h = absurd (let z : ⊥ = omega arith in z)
 code-report s at place (i ∷ is) (b ∷ report) rest h = rw (code-report s (at + 4) (suc place) is report rest (omega arith))
 
-module _ (s : List ℕ) (locks variables : ℕ) (rest : List ℕ) where
-  -- the threads' lines
-  threads-report : (n t at m : ℕ) (report : List ℕ) → SoundSections s locks variables n at m → m + n ≤ length report
-      → sectionLines s t (codesAt locks variables s n at) (report ++ rest) ≡ sectionLines s t (codesAt locks variables s n at) report
-  unfolding sectionLines codesAt
-  threads-report zero t at m report x h = refl
-  threads-report (suc n) t at m report x h =
-      let is : List Instruction = instructionsAt locks variables s (countAt s at) (at + 2) in
-      let e : length is ≡ countAt s at = length-instructions locks variables s (countAt s at) (at + 2) in
+module _ (s : List ℕ) (rest : List ℕ) where
+  -- the codes' lines
+  sections-report : (c : ℕ) (codes : List CodeSection) (report : List ℕ) → reportSize codes ≤ length report
+      → sectionLines s c codes (report ++ rest) ≡ sectionLines s c codes report
+  unfolding sectionLines reportSize
+  sections-report c [] report h = refl
+  sections-report c (x ∷ xs) report h =
+      let n : ℕ = length (x .code) in
       rw (
-        code-report s (at + 2) 0 is report rest (omega (arith, e, x .2)),
-        drop-append-le (length is + 1) report rest (omega (arith, e, x .2)),
-        threads-report n (suc t) (at + 2 + 4 * countAt s at) (x .0) (drop (length is + 1) report) (x .3) (omega (arith, e, x .2, length-drop (length is + 1) report)),
+        code-report s (x .start) 0 (x .code) report rest (omega arith),
+        drop-append-le (n + 1) report rest (omega arith),
+        sections-report (suc c) xs (drop (n + 1) report) (omega (arith, length-drop (n + 1) report)),
       )
 
-  -- the wholes' lines
-  wholes-report : (n t at m : ℕ) (report : List ℕ) → SoundSections s locks variables n at m → m + n ≤ length report
-      → wholeLines t (codesAt locks variables s n at) (report ++ rest) ≡ wholeLines t (codesAt locks variables s n at) report
-  unfolding wholeLines codesAt
-  wholes-report zero t at m report x h = refl
-  wholes-report (suc n) t at m report x h =
-      let is : List Instruction = instructionsAt locks variables s (countAt s at) (at + 2) in
-      let e : length is ≡ countAt s at = length-instructions locks variables s (countAt s at) (at + 2) in
+  -- the wholes'
+  wholes-report : (c : ℕ) (codes : List CodeSection) (report : List ℕ) → reportSize codes ≤ length report
+      → wholeLines c codes (report ++ rest) ≡ wholeLines c codes report
+  unfolding wholeLines reportSize
+  wholes-report c [] report h = refl
+  wholes-report c (x ∷ xs) report h =
+      let n : ℕ = length (x .code) in
       rw (
-        List·getD-append report rest 0 (length is) (omega (arith, e, x .2)),
-        drop-append-le (length is + 1) report rest (omega (arith, e, x .2)),
-        wholes-report n (suc t) (at + 2 + 4 * countAt s at) (x .0) (drop (length is + 1) report) (x .3) (omega (arith, e, x .2, length-drop (length is + 1) report)),
+        List·getD-append report rest 0 n (omega arith),
+        drop-append-le (n + 1) report rest (omega arith),
+        wholes-report (suc c) xs (drop (n + 1) report) (omega (arith, length-drop (n + 1) report)),
       )
 
 -- all lines
 pub lines-report : (s : List ℕ) (l : Layout) (report rest : List ℕ) → SoundFile s l → l .instructions + l .threads ≤ length report
     → lines s (programOf s l) (report ++ rest) ≡ lines s (programOf s l) report
-unfolding lines programOf
+unfolding lines
 lines-report s l report rest f h =
-    rw (
-      threads-report s (l .locks) (l .variables) rest (l .threads) 0 (recordOffset (l .variables)) (l .instructions) report (f .sections) h,
-      wholes-report s (l .locks) (l .variables) rest (l .threads) 0 (recordOffset (l .variables)) (l .instructions) report (f .sections) h,
-    )
+    let codes : List CodeSection = programOf s l .codes in
+    rw (sections-report s rest 0 codes report (omega (arith, report-size s l f)), wholes-report s rest 0 codes report (omega (arith, report-size s l f)))

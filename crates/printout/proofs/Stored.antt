@@ -7,6 +7,8 @@
 --     line-last, line-more         the last word of a line; a word of a line, and the line of the others
 --     line-with, line-several      a word and several words, and the line of the others; several words before those
 --     words-more, words-last       words with a blank after each: one more, and the last
+--     instruction-words-is, kind-words-is
+--                                  the words of an instruction, of a kind, that is known by its pattern
 --     line-written, line-written-same
 --                                  a line laid from the buffer's start on: its bytes, then the buffer's rest; the same line, said another way
 use mathlib.Core.Path.{_≡_, refl, sym, ap, _∙_}
@@ -18,7 +20,10 @@ use native.Mathlib.Omega.{arith}
 use lib.ListN.{length, getD, set, take, drop, length-append}
 use lib.Seq.{sets, sets-eq, take-suc}
 use Rattle.program.specs.Limits.{lineSize}
+use Rattle.program.specs.declared.instruction.Instruction.{Instruction}
+use Rattle.program.specs.declared.variable.Kind.{Kind}
 use Rattle.program.proofs.Lists.{sets-append}
+use Rattle.printout.specs.Line.{kindWords, instructionWords}
 use Rattle.printout.specs.Text.{ascii, spaced, lineOf}
 use Rattle.printout.specs.Internal.Writing.{Laid, LaidWord, LaidWords, LaidLine, WrittenLine, ended, blanked}
 
@@ -104,6 +109,13 @@ words-more f g = record { laid = laid-then (f .laid) (g .laid) }
 pub words-last : {w k l : List ℕ} {at p : ℕ} → LaidWord w 32 at k l p → LaidWords (w ∷ []) at k l p
 unfolding blanked
 words-last {w} f = record { laid = rw (append-nil (ended w 32)) (f .laid) }
+
+-- the words of an instruction, of a kind, that is known by its pattern
+pub instruction-words-is : {i j : Instruction} {k l : List ℕ} {at p : ℕ} → i ≡ j → LaidWords (instructionWords j) at k l p → LaidWords (instructionWords i) at k l p
+instruction-words-is e f = rw e f
+
+pub kind-words-is : {x y : Kind} {k l : List ℕ} {at p : ℕ} → x ≡ y → LaidWords (kindWords y) at k l p → LaidWords (kindWords x) at k l p
+kind-words-is e f = rw e f
 
 -- a line that was laid from the buffer's start on: its bytes, then the buffer's rest
 pub line-written : {ws : List (List ℕ)} {k l : List ℕ} {q : ℕ} → q ≤ lineSize → lineSize ≤ length k → LaidLine ws 0 k l q → WrittenLine (lineOf ws) k l q

@@ -1,40 +1,44 @@
 // Line i of the printout of a sound file (document 01, "Line and bench"), found by counting: four lines for the head, one for each
-// variable, then for each thread one and its code's, then one for each thread's whole.
+// variable, then for each thread one and its code's, then one for each thread's whole. Where a code lies, the table of sections says.
 use crate::line::head_line;
 use crate::line::instruction_line;
 use crate::line::thread_line;
 use crate::line::variable_line;
 use crate::line::variables_line;
 use crate::line::whole_line;
-use program::instruction::valid_instruction_at;
+use program::instruction::instruction_at;
 use program::layout::Layout;
-use program::layout::code_count;
+use program::limits::CODE_LIMIT;
 use program::limits::INSTRUCTION_SIZE;
 use program::limits::RECORDS_START;
 use program::limits::VARIABLE_SIZE;
+use program::sections::bytes_before;
 use program::variable::initial_at;
 use program::variable::kind_at;
 ghost use mathlib.Core.Path.{_≡_};
-ghost use mathlib.Core.List.{List, []};
-ghost use Prim.Native.Nat.{ℕ, _+_, _≤_, _<_};
+ghost use mathlib.Core.List.{[]};
+ghost use mathlib.Core.Bool.{true};
+ghost use Prim.Native.Nat.{ℕ, _+_, _*_, _≤_, _<_};
 ghost use lib.ListN.{length, getD};
-ghost use Rattle.program.specs.Answer.{fine};
-ghost use Rattle.program.specs.Limits.{threadLimit, variableLimit, recordsStart, recordOffset, lineSize};
-ghost use Rattle.program.specs.Internal.Bounds.{programLimit, lineCount};
-ghost use Rattle.program.specs.Layout.{programOf, reading};
+ghost use Rattle.program.specs.Limits.{threadLimit, variableLimit, instructionSize, instructionLimit, recordsStart, recordOffset, reportLimit, lineSize};
+ghost use Rattle.program.specs.Internal.Bounds.{codeLimit, programLimit, lineCount};
+ghost use Rattle.program.specs.Layout.{programOf};
+ghost use Rattle.program.specs.Instruction.{decodeAt, decodedInstruction, isValid};
 ghost use Rattle.program.specs.Variable.{variableAt};
+ghost use Rattle.program.specs.Internal.Rows.{rowTable};
+ghost use Rattle.program.specs.Internal.Sections.{SectionTable, bytesBefore};
 ghost use Rattle.program.specs.Internal.Sound.{SoundFile};
-ghost use Rattle.printout.specs.Line.{lines, variableLine, wholeLines};
+ghost use Rattle.printout.specs.Line.{lines, instructionLine, variableLine};
 ghost use Rattle.printout.specs.Internal.Writing.{WrittenLine};
-ghost use Rattle.printout.specs.Internal.Item.{headLines, itemLine, itemLines, ItemGood, wholeLine};
+ghost use Rattle.printout.specs.Internal.Item.{headLines, itemLines, ItemAt};
 
 // What a line after those of the variables shows.
 pub enum Item {
-    // A thread, the length field of its code section at an offset.
-    Thread(usize, usize),
-    // An instruction: its offset, its place, and the index of its report byte.
-    Code(usize, usize, usize),
-    // A thread's whole.
+    // Thread t: its code section's length.
+    Thread(usize),
+    // The instruction of thread t at a place.
+    Code(usize, usize),
+    // Thread t's whole.
     Whole(usize),
 }
 
@@ -59,51 +63,26 @@ fn print_head(file: &[u8], variables: usize, i: usize, out: &mut [u8]) -> usize
     }
 }
 
-// What line i after the variables' shows: the code sections are walked.
-fn item_at(file: &[u8], l: Layout, i: usize) -> Item
-    requires { ⌜ SoundFile (now file) l × (i < l .threads + l .instructions + l .threads) ⌝ }
-    ensures { λ r. ⌜ ((report : List ℕ) → itemLine (now (file .entry)) l report r ≡ getD (itemLines (now (file .entry)) l report) i []) ⌝ }
-    ensures { λ r. ⌜ ItemGood (now (file .entry)) l r ⌝ }
+// What line i after the variables' shows: a code has as many lines as report bytes, and after all code there is one for each whole.
+fn item_at(counts: &[usize; CODE_LIMIT], threads: usize, i: usize) -> Item
+    requires { ⌜ (threads ≤ codeLimit) × (bytesBefore (now counts) threads ≤ reportLimit) × (i < bytesBefore (now counts) threads + threads) ⌝ }
+    ensures { λ r. ⌜ ItemAt (now (counts .entry)) threads i r ⌝ }
 {
-    let mut t = 0;
-    let mut at = RECORDS_START + VARIABLE_SIZE * l.variables;
+    let mut t: usize = 0;
     let mut from = 0;
-    while t < l.threads {
-        let count = code_count(file, at);
+    while t < threads {
+        let count = counts[t];
         let passed = i - from;
         if passed == 0 {
-            return Item::Thread(t, at);
+            return Item::Thread(t);
         }
         if passed <= count {
-            let place = passed - 1;
-            return Item::Code(at + 2 + INSTRUCTION_SIZE * place, place, i - 1);
+            return Item::Code(t, passed - 1);
         }
         from = from + count + 1;
-        at = at + 2 + INSTRUCTION_SIZE * count;
         t += 1;
     }
     Item::Whole(i - from)
-}
-
-// The index of the report byte of thread t's whole.
-fn whole_byte(file: &[u8], l: Layout, t: usize) -> usize
-    requires { ⌜ SoundFile (now file) l × (t < l .threads) ⌝ }
-    ensures { λ r. ⌜ ((report : List ℕ) → wholeLine t r report ≡ getD (wholeLines 0 (programOf (now (file .entry)) l .codes) report) t []) ⌝ }
-    ensures { λ r. ⌜ r < l .instructions + l .threads ⌝ }
-{
-    let mut u = 0;
-    let mut at = RECORDS_START + VARIABLE_SIZE * l.variables;
-    let mut from = 0;
-    while u < l.threads {
-        let count = code_count(file, at);
-        if u == t {
-            return from + count;
-        }
-        from = from + count + 1;
-        at = at + 2 + INSTRUCTION_SIZE * count;
-        u += 1;
-    }
-    from
 }
 
 // Variable v's line.
@@ -117,27 +96,71 @@ fn print_variable(file: &[u8], l: Layout, v: usize, out: &mut [u8]) -> usize
     variable_line(file, at, v as u8, kind, initial, out)
 }
 
-// A line after those of the variables.
-fn print_item(file: &[u8], l: Layout, report: &[u8], item: Item, out: &mut [u8]) -> usize
-    requires { ⌜ SoundFile (now file) l × (l .instructions + l .threads ≤ length (now report)) × ItemGood (now file) l item × (lineSize ≤ length (now out)) ⌝ }
-    ensures { λ r. ⌜ WrittenLine (itemLine (now (file .entry)) l (now (report .entry)) item) (now (out .entry)) (now (out .exit)) r ⌝ }
+// The report byte of code c at a place; that of its whole stands after its instructions'.
+fn report_byte(counts: &[usize; CODE_LIMIT], report: &[u8], c: usize, place: usize) -> u8
+    requires { ⌜ (c ≤ codeLimit) × (bytesBefore (now counts) c ≤ reportLimit) × (bytesBefore (now counts) c + place < length (now report)) ⌝ }
+    ensures { λ r. ⌜ r ≡ getD (now (report .entry)) (bytesBefore (now (counts .entry)) c + place) 0 ⌝ }
 {
+    report[bytes_before(counts, c) + place]
+}
+
+// The line of the instruction at a place of the code that starts at an offset, with its report byte.
+fn print_instruction(
+    rows: &[u8],
+    file: &[u8],
+    start: usize,
+    place: usize,
+    byte: u8,
+    out: &mut [u8],
+) -> usize
+    requires { ⌜ (now rows ≡ rowTable) × (place < instructionLimit) × (start + instructionSize * place + instructionSize ≤ length (now file)) × (lineSize ≤ length (now out)) ⌝ }
+    ensures { λ r. ⌜ ((locks variables : ℕ) → isValid (decodeAt locks variables (now (file .entry)) (start + instructionSize * place)) ≡ true → WrittenLine (instructionLine (now (file .entry)) (start + instructionSize * place) place (decodedInstruction (decodeAt locks variables (now (file .entry)) (start + instructionSize * place))) byte) (now (out .entry)) (now (out .exit)) r) ⌝ }
+{
+    let at = start + INSTRUCTION_SIZE * place;
+    let i = instruction_at(rows, file, at);
+    instruction_line(file, at, place, i, byte, out)
+}
+
+// Line i after those of the variables.
+fn print_item(
+    rows: &[u8],
+    file: &[u8],
+    l: Layout,
+    starts: &[usize; CODE_LIMIT],
+    counts: &[usize; CODE_LIMIT],
+    report: &[u8],
+    i: usize,
+    out: &mut [u8],
+) -> usize
+    requires { ⌜ (now rows ≡ rowTable) × SectionTable (now file) l (now starts) (now counts) × (l .instructions + l .threads ≤ length (now report)) × (i < l .threads + l .instructions + l .threads) × (lineSize ≤ length (now out)) ⌝ }
+    ensures { λ r. ⌜ WrittenLine (getD (itemLines (now (file .entry)) l (now (report .entry))) i []) (now (out .entry)) (now (out .exit)) r ⌝ }
+{
+    let item = item_at(counts, l.threads, i);
     match item {
-        Item::Thread(t, at) => thread_line(file, at, t, code_count(file, at), out),
-        Item::Code(at, place, from) => {
-            let i = valid_instruction_at(file, at);
-            instruction_line(file, at, place, i, report[from], out)
+        Item::Thread(t) => thread_line(file, starts[t] - 2, t, counts[t], out),
+        Item::Code(t, place) => {
+            let byte = report_byte(counts, report, t, place);
+            print_instruction(rows, file, starts[t], place, byte, out)
         }
         Item::Whole(t) => {
-            let from = whole_byte(file, l, t);
-            whole_line(t, report[from], out)
+            let byte = report_byte(counts, report, t, counts[t]);
+            whole_line(t, byte, out)
         }
     }
 }
 
 // Line i of the printout, for a buffer of 48 bytes or more; answers the line's length.
-pub fn write_line(file: &[u8], l: Layout, report: &[u8], i: usize, out: &mut [u8]) -> usize
-    requires { ⌜ (reading (now file) ≡ fine l) × (l .instructions + l .threads ≤ length (now report)) × (i < lineCount (l .variables) (l .threads) (l .instructions)) × (lineSize ≤ length (now out)) ⌝ }
+pub fn write_line(
+    rows: &[u8],
+    file: &[u8],
+    l: Layout,
+    starts: &[usize; CODE_LIMIT],
+    counts: &[usize; CODE_LIMIT],
+    report: &[u8],
+    i: usize,
+    out: &mut [u8],
+) -> usize
+    requires { ⌜ (now rows ≡ rowTable) × SectionTable (now file) l (now starts) (now counts) × (l .instructions + l .threads ≤ length (now report)) × (i < lineCount (l .variables) (l .threads) (l .instructions)) × (lineSize ≤ length (now out)) ⌝ }
     ensures { λ r. ⌜ WrittenLine (getD (lines (now (file .entry)) (programOf (now (file .entry)) l) (now (report .entry))) i []) (now (out .entry)) (now (out .exit)) r ⌝ }
 {
     if i < 4 {
@@ -147,6 +170,6 @@ pub fn write_line(file: &[u8], l: Layout, report: &[u8], i: usize, out: &mut [u8
     if past < l.variables {
         return print_variable(file, l, past, out);
     }
-    let item = item_at(file, l, past - l.variables);
-    print_item(file, l, report, item, out)
+    let rest = past - l.variables;
+    print_item(rows, file, l, starts, counts, report, rest, out)
 }

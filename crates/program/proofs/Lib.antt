@@ -5,15 +5,18 @@
 --     Lists        facts about lists that the kit does not have
 --     Answer       answers: going on, and what a fine one went on from
 --     Decode       what a decoded instruction's fields satisfy
+--     Seen         what the rules see of an instruction: the one law over all of them
 --     Contents     a file's contents by index
 --     Search       the search for the first offence
 --     Stack        a stack held in an array
 --     Change       what one instruction does to the open entries
 --     Scan         the scan for the first place where nesting is broken
+--     Walking      the walk over a code section, one instruction at a time
 --     ReadBack     what is known where reading a part of the file answered a value
---     Sections     the code sections of the threads
+--     CodeSections the code sections of the threads, as they are read
 --     Steps        the steps of the definition of reading
 --     Sound        what a file that is read as sound holds
+--     SectionTable the table of sections, filled code by code
 --     Prefix       bytes past the largest file's length are not looked at
 --     Structure    nesting passes exactly for the flat writing of structured code; by way of
 --                  StructureFlat (the flat writing, and reading it back), StructureTurn (what a scan that passes has come to),
@@ -25,15 +28,18 @@ pub mod Differ
 pub mod Lists
 pub mod Answer
 pub mod Decode
+pub mod Seen
 pub mod Contents
 pub mod Search
 pub mod Stack
 pub mod Change
 pub mod Scan
+pub mod Walking
 pub mod ReadBack
-pub mod Sections
+pub mod CodeSections
 pub mod Steps
 pub mod Sound
+pub mod SectionTable
 pub mod Prefix
 pub mod StructureFlat
 pub mod StructureTurn

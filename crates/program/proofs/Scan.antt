@@ -18,7 +18,6 @@ use Rattle.program.specs.Nesting.{OpenAfter, broken, opened, nest, first
 use Rattle.program.specs.declared.found.Found.{Found}
 use Rattle.program.specs.declared.found.Found.the-variants.{At}
 use Rattle.program.specs.Internal.Change.{entriesOf, entriesAfter, depthAfter, under, turned, Room, Fulfils}
-use Rattle.program.specs.declared.instruction.Form.{Form}
 use Rattle.program.specs.declared.instruction.Instruction.{Instruction}
 use Rattle.program.specs.declared.nesting.Entry.{Entry}
 use Rattle.program.specs.declared.nesting.Entry.the-variants.{Then}
@@ -66,10 +65,10 @@ module _ (locks variables : ℕ) (s : List ℕ) (start n : ℕ) where
       let o : start + 4 * 0 ≡ start = omega arith in
       rw (m, o)
 
--- one turn of the scan, the entries in an array: f is the form of the instruction at place p, top the innermost entry, and t what is
--- right whatever lies below it
-module _ (p d : ℕ) (xs : List Entry) (t : Turn) (top : Top) (f : Form) (is-top : entriesOf d xs ≡ under top (entriesOf (d - 1) xs))
-    (right : (below : List Entry) → length (under top below) ≡ d → Fulfils t top below (nest p f (under top below))) where
+-- one turn of the scan, the entries in an array: i is the instruction at place p, top the innermost entry, and t what is right whatever
+-- lies below it
+module _ (p d : ℕ) (xs : List Entry) (t : Turn) (top : Top) (i : Instruction) (is-top : entriesOf d xs ≡ under top (entriesOf (d - 1) xs))
+    (right : (below : List Entry) → length (under top below) ≡ d → Fulfils t top below (nest p (formOf i) (under top below))) where
   length-under : length (under top (entriesOf (d - 1) xs)) ≡ d
   length-under = rw (← is-top) (length-stack (Then 0) d xs)
 
@@ -77,10 +76,10 @@ module _ (p d : ℕ) (xs : List Entry) (t : Turn) (top : Top) (f : Form) (is-top
   pub turn-room : (ch : Change) → t ≡ Goes ch → Room ch d
   turn-room ch e = rw (e, length-under) at (right (entriesOf (d - 1) xs) length-under .room)
 
-  module _ (locks variables : ℕ) (s : List ℕ) (start n : ℕ) (i : Instruction)
-      (is-i : i ≡ decodedInstruction (decodeAt locks variables s (start + 4 * p))) (is-f : f ≡ formOf i) (inside : p < n) where
+  module _ (locks variables : ℕ) (s : List ℕ) (start n : ℕ)
+      (is-i : i ≡ decodedInstruction (decodeAt locks variables s (start + 4 * p))) (inside : p < n) where
     turn-does : turned t top (entriesOf (d - 1) xs) ≡ nestAt locks variables s start n p (entriesOf d xs)
-    turn-does = rw (is-top, ← is-i, ← is-f) (right (entriesOf (d - 1) xs) length-under .does)
+    turn-does = rw (is-top, ← is-i) (right (entriesOf (d - 1) xs) length-under .does)
 
     -- broken: the scan ends
     pub turn-broken : t ≡ Broken → restFrom locks variables s start n p (entriesOf d xs) ≡ At p

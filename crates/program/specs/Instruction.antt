@@ -16,48 +16,62 @@ pub data Decoded : Type 0 where
   Valid : Instruction → Decoded
   Invalid : Decoded
 
--- a row of the table: op code, what its fields must be, the instruction
+-- what a field of an instruction must be: a register, variable or lock that there is, 0, or a part of n
+pub data FieldKind : Type 0 where
+  register variable lock zero part : FieldKind
+
+-- "Registers are r0 to r7"; "Every lock, variable .. named must lie below its count"; "A field not mentioned is 0"
+abbrev pub isRight : (locks variables : ℕ) → FieldKind → ℕ → Bool
+isRight locks variables register x = ltb x registerCount
+isRight locks variables variable x = ltb x variables
+isRight locks variables lock x = ltb x locks
+isRight locks variables zero x = eqb x 0
+isRight locks variables part x = true
+
+-- a row of the table: op code, what its fields a, b, c must be, the instruction
 pub record TableRow : Type 0 where
   pub op : ℕ
-  pub fields : Bool
+  pub a : FieldKind
+  pub b : FieldKind
+  pub c : FieldKind
   pub instruction : Instruction
 
-abbrev row : ℕ → Bool → Instruction → TableRow
-row op fields i = record { op = op; fields = fields; instruction = i }
+abbrev pub row : ℕ → (a b c : FieldKind) → Instruction → TableRow
+row op a b c i = record { op = op; a = a; b = b; c = c; instruction = i }
+
+-- the table, for fields a, b, c. n is b times 256 plus c
+abbrev pub table : (a b c : ℕ) → List TableRow
+table a b c =
+    let n = b * 256 + c in
+    row 0x01 register part part (Set a n)
+    ∷ row 0x02 register register zero (Copy a b)
+    ∷ row 0x03 register register register (Add a b c)
+    ∷ row 0x04 register register register (Sub a b c)
+    ∷ row 0x05 register register register (Less a b c)
+    ∷ row 0x10 register variable zero (Read a b)
+    ∷ row 0x11 register variable zero (Write a b)
+    ∷ row 0x20 lock zero zero (Take a)
+    ∷ row 0x21 lock zero zero (Give a)
+    ∷ row 0x30 register part part (If a n)
+    ∷ row 0x31 zero part part (Else n)
+    ∷ row 0x32 register part part (While a n)
+    ∷ row 0x33 zero part part (Again n)
+    ∷ row 0x34 zero part part (Atomic n)
+    ∷ row 0x35 zero zero zero End
+    ∷ []
+
+-- "7: unknown op, or a register, variable, lock or zero field wrong"
+abbrev pub isRightRow : (locks variables a b c : ℕ) → TableRow → Bool
+isRightRow locks variables a b c r = isRight locks variables (r .a) a && isRight locks variables (r .b) b && isRight locks variables (r .c) c
 
 -- the row of an op code, if its fields are right
-abbrev pub lookUp : ℕ → List TableRow → Decoded
-lookUp op [] = Invalid
-lookUp op (r ∷ rs) = choose (eqb op (r .op)) (choose (r .fields) (Valid (r .instruction)) Invalid) (lookUp op rs)
+abbrev pub lookUp : (locks variables op a b c : ℕ) → List TableRow → Decoded
+lookUp locks variables op a b c [] = Invalid
+lookUp locks variables op a b c (r ∷ rs) =
+    choose (eqb op (r .op)) (choose (isRightRow locks variables a b c r) (Valid (r .instruction)) Invalid) (lookUp locks variables op a b c rs)
 
--- "Registers are r0 to r7"; "A field not mentioned is 0"
-abbrev pub isRegister : ℕ → Bool
-isRegister a = ltb a registerCount
-
-abbrev pub isZero : ℕ → Bool
-isZero a = eqb a 0
-
--- "7: unknown op, or a register, variable, lock or zero field wrong". n is b times 256 plus c
 unfoldable pub decode : (locks variables op a b c : ℕ) → Decoded
-decode locks variables op a b c =
-    let n = b * 256 + c in
-    lookUp op
-    (row 0x01 (isRegister a) (Set a n)
-    ∷ row 0x02 (isRegister a && isRegister b && isZero c) (Copy a b)
-    ∷ row 0x03 (isRegister a && isRegister b && isRegister c) (Add a b c)
-    ∷ row 0x04 (isRegister a && isRegister b && isRegister c) (Sub a b c)
-    ∷ row 0x05 (isRegister a && isRegister b && isRegister c) (Less a b c)
-    ∷ row 0x10 (isRegister a && ltb b variables && isZero c) (Read a b)
-    ∷ row 0x11 (isRegister a && ltb b variables && isZero c) (Write a b)
-    ∷ row 0x20 (ltb a locks && isZero b && isZero c) (Take a)
-    ∷ row 0x21 (ltb a locks && isZero b && isZero c) (Give a)
-    ∷ row 0x30 (isRegister a) (If a n)
-    ∷ row 0x31 (isZero a) (Else n)
-    ∷ row 0x32 (isRegister a) (While a n)
-    ∷ row 0x33 (isZero a) (Again n)
-    ∷ row 0x34 (isZero a) (Atomic n)
-    ∷ row 0x35 (isZero a && isZero b && isZero c) End
-    ∷ [])
+decode locks variables op a b c = lookUp locks variables op a b c (table a b c)
 
 abbrev pub isValid : Decoded → Bool
 isValid (Valid i) = true

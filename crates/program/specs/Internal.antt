@@ -1,15 +1,19 @@
 -- What only proofs and the contracts of inner functions use; no public call's contract cites it.
 --     Bounds       what follows from the limits
 --     Answered     what the enums of src/ answer
---     RowNumber    the rows of the table of op codes by their numbers
+--     Rows         the rows of the table of op codes by their numbers, and the limits of their fields
 --     WellFormed   trees that code is the flat writing of, and their depth
 --     Stack        a stack that the code holds in an array
 --     Change       the open entries as the code holds them, and what an instruction does to them
+--     Walk         the walk over a code section as one pass
 --     Sound        what a sound file is known to hold
+--     Sections     the table of sections
 pub mod Bounds
 pub mod Answered
-pub mod RowNumber
+pub mod Rows
 pub mod WellFormed
 pub mod Stack
 pub mod Change
+pub mod Walk
 pub mod Sound
+pub mod Sections

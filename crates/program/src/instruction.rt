@@ -1,20 +1,14 @@
 // A decoded instruction (document 01, "The file": the table of op codes).
-use crate::found::Found;
-use crate::limits::INSTRUCTION_SIZE;
-use crate::limits::REGISTER_COUNT;
 ghost use mathlib.Core.Path.{_≡_};
-ghost use mathlib.Core.Bool.{true, _&&_};
-ghost use Prim.Native.Nat.{ℕ, _+_, _*_, _≤_};
+ghost use mathlib.Core.Bool.{true};
+ghost use Prim.Native.Nat.{ℕ, _+_, _/_, _%_, _^_, _≤_, _<_};
 ghost use lib.ListN.{length};
-ghost use lib.Dec.{ltb};
-ghost use Rattle.program.specs.Choice.{firstBad};
-ghost use Rattle.program.specs.Instruction.{isRegister, isZero, decodeAt, decodedInstruction, formOf};
+ghost use lib.Dec.{eqb};
+ghost use Rattle.program.specs.Instruction.{decodeAt, decodedInstruction, formOf};
 ghost use Rattle.program.specs.Instruction as Table;
-ghost use Rattle.program.specs.Limits.{instructionSize};
-ghost use Rattle.program.specs.Internal.RowNumber.{rowNumber};
-
-// The number of registers, as a field's byte is compared with it.
-const REGISTERS: u8 = REGISTER_COUNT as u8;
+ghost use Rattle.program.specs.Limits.{instructionSize, lockLimit, variableLimit};
+ghost use Rattle.program.specs.Internal.Rows.{limitsOf, nestingRows, rowOf, rowTable};
+ghost use Rattle.program.specs.Internal.Sound.{RegistersGood};
 
 pub enum Instruction {
     Set(u8, u16),
@@ -45,92 +39,415 @@ pub enum Form {
     End,
 }
 
-// What the fields of the rows must be.
-fn is_copy(a: u8, b: u8, c: u8) -> bool
-    ensures { λ r. ⌜ r ≡ (isRegister a && isRegister b && isZero c) ⌝ }
+// The row of each op code in document 01's table, from 1 on, by the op code; 0 for a byte that is none. Numbers without gaps make a
+// `match` on them short enough for the compiler to put it where it is used.
+const ROWS: [u8; 256] = [
+    0,
+    1,
+    2,
+    3,
+    4,
+    5,
+    0,
+    0,
+    0,
+    0,
+    0,
+    0,
+    0,
+    0,
+    0,
+    0,
+    6,
+    7,
+    0,
+    0,
+    0,
+    0,
+    0,
+    0,
+    0,
+    0,
+    0,
+    0,
+    0,
+    0,
+    0,
+    0,
+    8,
+    9,
+    0,
+    0,
+    0,
+    0,
+    0,
+    0,
+    0,
+    0,
+    0,
+    0,
+    0,
+    0,
+    0,
+    0,
+    10,
+    11,
+    12,
+    13,
+    14,
+    15,
+    0,
+    0,
+    0,
+    0,
+    0,
+    0,
+    0,
+    0,
+    0,
+    0,
+    0,
+    0,
+    0,
+    0,
+    0,
+    0,
+    0,
+    0,
+    0,
+    0,
+    0,
+    0,
+    0,
+    0,
+    0,
+    0,
+    0,
+    0,
+    0,
+    0,
+    0,
+    0,
+    0,
+    0,
+    0,
+    0,
+    0,
+    0,
+    0,
+    0,
+    0,
+    0,
+    0,
+    0,
+    0,
+    0,
+    0,
+    0,
+    0,
+    0,
+    0,
+    0,
+    0,
+    0,
+    0,
+    0,
+    0,
+    0,
+    0,
+    0,
+    0,
+    0,
+    0,
+    0,
+    0,
+    0,
+    0,
+    0,
+    0,
+    0,
+    0,
+    0,
+    0,
+    0,
+    0,
+    0,
+    0,
+    0,
+    0,
+    0,
+    0,
+    0,
+    0,
+    0,
+    0,
+    0,
+    0,
+    0,
+    0,
+    0,
+    0,
+    0,
+    0,
+    0,
+    0,
+    0,
+    0,
+    0,
+    0,
+    0,
+    0,
+    0,
+    0,
+    0,
+    0,
+    0,
+    0,
+    0,
+    0,
+    0,
+    0,
+    0,
+    0,
+    0,
+    0,
+    0,
+    0,
+    0,
+    0,
+    0,
+    0,
+    0,
+    0,
+    0,
+    0,
+    0,
+    0,
+    0,
+    0,
+    0,
+    0,
+    0,
+    0,
+    0,
+    0,
+    0,
+    0,
+    0,
+    0,
+    0,
+    0,
+    0,
+    0,
+    0,
+    0,
+    0,
+    0,
+    0,
+    0,
+    0,
+    0,
+    0,
+    0,
+    0,
+    0,
+    0,
+    0,
+    0,
+    0,
+    0,
+    0,
+    0,
+    0,
+    0,
+    0,
+    0,
+    0,
+    0,
+    0,
+    0,
+    0,
+    0,
+    0,
+    0,
+    0,
+    0,
+    0,
+    0,
+    0,
+    0,
+    0,
+    0,
+    0,
+    0,
+    0,
+    0,
+    0,
+    0,
+    0,
+    0,
+    0,
+    0,
+    0,
+    0,
+    0,
+    0,
+    0,
+    0,
+    0,
+    0,
+    0,
+    0,
+];
+
+// It is copied once a call and lent from there: a constant array that is indexed is built anew at each use.
+pub fn row_table() -> [u8; 256]
+    ensures { λ r. ⌜ r ≡ rowTable ⌝ }
 {
-    (a < REGISTERS) & (b < REGISTERS) & (c == 0)
+    ROWS
 }
 
-fn are_registers(a: u8, b: u8, c: u8) -> bool
-    ensures { λ r. ⌜ r ≡ (isRegister a && isRegister b && isRegister c) ⌝ }
+// The row of an op code.
+pub fn row_of(rows: &[u8], op: u8) -> u8
+    requires { ⌜ now rows ≡ rowTable ⌝ }
+    ensures { λ r. ⌜ (r ≡ rowOf op) × (r < 32) ⌝ }
 {
-    (a < REGISTERS) & (b < REGISTERS) & (c < REGISTERS)
+    rows[op as usize]
 }
 
-fn is_access(variables: usize, a: u8, b: u8, c: u8) -> bool
-    ensures { λ r. ⌜ r ≡ (isRegister a && ltb b variables && isZero c) ⌝ }
+// What the fields of each row lie below: field a of row r at r, field b at 32 + r, field c at 64 + r. No field lies below row 0's.
+pub fn limits_of(locks: usize, variables: usize) -> [u16; 96]
+    requires { ⌜ (locks ≤ lockLimit) × (variables ≤ variableLimit) ⌝ }
+    ensures { λ r. ⌜ r ≡ limitsOf locks variables ⌝ }
 {
-    (a < REGISTERS) & ((b as usize) < variables) & (c == 0)
+    let k = locks as u16;
+    let v = variables as u16;
+    [
+        0,
+        8,
+        8,
+        8,
+        8,
+        8,
+        8,
+        8,
+        k,
+        k,
+        8,
+        1,
+        8,
+        1,
+        1,
+        1,
+        0,
+        0,
+        0,
+        0,
+        0,
+        0,
+        0,
+        0,
+        0,
+        0,
+        0,
+        0,
+        0,
+        0,
+        0,
+        0,
+        0,
+        256,
+        8,
+        8,
+        8,
+        8,
+        v,
+        v,
+        1,
+        1,
+        256,
+        256,
+        256,
+        256,
+        256,
+        1,
+        0,
+        0,
+        0,
+        0,
+        0,
+        0,
+        0,
+        0,
+        0,
+        0,
+        0,
+        0,
+        0,
+        0,
+        0,
+        0,
+        0,
+        256,
+        1,
+        8,
+        8,
+        8,
+        1,
+        1,
+        1,
+        1,
+        256,
+        256,
+        256,
+        256,
+        256,
+        1,
+        0,
+        0,
+        0,
+        0,
+        0,
+        0,
+        0,
+        0,
+        0,
+        0,
+        0,
+        0,
+        0,
+        0,
+        0,
+        0,
+    ]
 }
 
-fn is_lock(locks: usize, a: u8, b: u8, c: u8) -> bool
-    ensures { λ r. ⌜ r ≡ (ltb a locks && isZero b && isZero c) ⌝ }
+// Whether the fields of an instruction of this row are right.
+pub fn is_valid(limits: &[u16], row: u8, a: u8, b: u8, c: u8) -> bool
+    requires { ⌜ (length (now limits) ≡ 96) × (row < 32) ⌝ }
+    ensures { λ r. ⌜ ((locks variables op : ℕ) → now (limits .entry) ≡ limitsOf locks variables → row ≡ rowOf op
+        → r ≡ Table.isValid (Table.decode locks variables op a b c)) ⌝ }
 {
-    ((a as usize) < locks) & (b == 0) & (c == 0)
+    let i = row as usize;
+    ((a as u16) < limits[i]) & ((b as u16) < limits[32 + i]) & ((c as u16) < limits[64 + i])
 }
 
-fn are_zero(a: u8, b: u8, c: u8) -> bool
-    ensures { λ r. ⌜ r ≡ (isZero a && isZero b && isZero c) ⌝ }
+// Whether a row is an opener's or a closer's: it has a bit in this number.
+const NESTING_ROWS: u32 = 0xFC00;
+
+pub fn is_nesting(row: u8) -> bool
+    requires { ⌜ row < 32 ⌝ }
+    ensures { λ r. ⌜ r ≡ eqb (nestingRows / 2 ^ row % 2) 1 ⌝ }
 {
-    (a == 0) & (b == 0) & (c == 0)
+    (NESTING_ROWS >> row) % 2 == 1
 }
 
-// Whether an op code is one of the table's, and its fields are right.
-pub fn is_valid(locks: usize, variables: usize, op: u8, a: u8, b: u8, c: u8) -> bool
-    ensures { λ r. ⌜ r ≡ Table.isValid (Table.decode locks variables op a b c) ⌝ }
-{
-    match op {
-        0x01 => a < REGISTERS,
-        0x02 => is_copy(a, b, c),
-        0x03 => are_registers(a, b, c),
-        0x04 => are_registers(a, b, c),
-        0x05 => are_registers(a, b, c),
-        0x10 => is_access(variables, a, b, c),
-        0x11 => is_access(variables, a, b, c),
-        0x20 => is_lock(locks, a, b, c),
-        0x21 => is_lock(locks, a, b, c),
-        0x30 => a < REGISTERS,
-        0x31 => a == 0,
-        0x32 => a < REGISTERS,
-        0x33 => a == 0,
-        0x34 => a == 0,
-        0x35 => are_zero(a, b, c),
-        _ => false,
-    }
-}
-
-// The four bytes at an offset.
-pub fn is_valid_at(s: &[u8], at: usize, locks: usize, variables: usize) -> bool
-    requires { ⌜ at + instructionSize ≤ length (now s) ⌝ }
-    ensures { λ r. ⌜ r ≡ Table.isValid (decodeAt locks variables (now (s .entry)) at) ⌝ }
-{
-    is_valid(locks, variables, s[at], s[at + 1], s[at + 2], s[at + 3])
-}
-
-// The row of an op code in document 01's table, from 1 on: numbers without gaps make a `match` short enough for the compiler to put it
-// where it is used. Of a byte that is no op code it says nothing.
-fn row_number(op: u8) -> u8
-    ensures { λ r. ⌜ r ≡ rowNumber op ⌝ }
-{
-    if op < 0x10 {
-        return op;
-    }
-    if op < 0x20 {
-        return op - 10;
-    }
-    if op < 0x30 {
-        return op - 24;
-    }
-    op - 38
-}
-
-// What an op code and its fields say, where they are right: the op alone decides.
-pub fn valid_instruction(op: u8, a: u8, b: u8, c: u8) -> Instruction
-    ensures { λ r. ⌜ ((locks variables : ℕ) → Table.isValid (Table.decode locks variables op a b c) ≡ true → r ≡ decodedInstruction (Table.decode locks variables op a b c)) ⌝ }
+// The instruction of a row, where its fields are right.
+pub fn instruction_of(row: u8, a: u8, b: u8, c: u8) -> Instruction
+    ensures { λ r. ⌜ ((locks variables op : ℕ) → row ≡ rowOf op → Table.isValid (Table.decode locks variables op a b c) ≡ true
+        → (r ≡ decodedInstruction (Table.decode locks variables op a b c)) × RegistersGood r) ⌝ }
 {
     let n = (b as u16) * 256 + (c as u16);
-    let row = row_number(op);
     match row {
         1 => Instruction::Set(a, n),
         2 => Instruction::Copy(a, b),
@@ -151,11 +468,12 @@ pub fn valid_instruction(op: u8, a: u8, b: u8, c: u8) -> Instruction
 }
 
 // The instruction of the four bytes at an offset, where they are valid.
-pub fn valid_instruction_at(s: &[u8], at: usize) -> Instruction
-    requires { ⌜ at + instructionSize ≤ length (now s) ⌝ }
-    ensures { λ r. ⌜ ((locks variables : ℕ) → Table.isValid (decodeAt locks variables (now (s .entry)) at) ≡ true → r ≡ decodedInstruction (decodeAt locks variables (now (s .entry)) at)) ⌝ }
+pub fn instruction_at(rows: &[u8], s: &[u8], at: usize) -> Instruction
+    requires { ⌜ (now rows ≡ rowTable) × (at + instructionSize ≤ length (now s)) ⌝ }
+    ensures { λ r. ⌜ ((locks variables : ℕ) → Table.isValid (decodeAt locks variables (now (s .entry)) at) ≡ true
+        → (r ≡ decodedInstruction (decodeAt locks variables (now (s .entry)) at)) × RegistersGood r) ⌝ }
 {
-    valid_instruction(s[at], s[at + 1], s[at + 2], s[at + 3])
+    instruction_of(row_of(rows, s[at]), s[at + 1], s[at + 2], s[at + 3])
 }
 
 // What nesting sees of an instruction.
@@ -179,27 +497,4 @@ pub fn form_of(i: Instruction) -> Form
         Instruction::Atomic(n) => Form::Atomic(n),
         Instruction::End => Form::End,
     }
-}
-
-// The first of n instructions from an offset on that is not valid.
-pub fn first_bad_instruction(
-    s: &[u8],
-    start: usize,
-    n: usize,
-    locks: usize,
-    variables: usize,
-) -> Found
-    requires { ⌜ start + instructionSize * n ≤ length (now s) ⌝ }
-    ensures { λ r. ⌜ r ≡ firstBad (λ p. Table.isValid (decodeAt locks variables (now (s .entry)) p)) instructionSize n start ⌝ }
-{
-    let mut at = start;
-    let mut left = n;
-    while 0 < left {
-        if !is_valid_at(s, at, locks, variables) {
-            return Found::At(at);
-        }
-        at += INSTRUCTION_SIZE;
-        left -= 1;
-    }
-    Found::Nowhere
 }

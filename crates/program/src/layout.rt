@@ -7,23 +7,25 @@ use crate::cursor::byte_field;
 use crate::cursor::pair_at;
 use crate::cursor::section;
 use crate::found::Found;
-use crate::instruction::first_bad_instruction;
+use crate::instruction::limits_of;
 use crate::limits::CODE_SECTION_LIMIT;
 use crate::limits::INSTRUCTION_SIZE;
 use crate::limits::LOCK_LIMIT;
 use crate::limits::THREAD_LIMIT;
 use crate::limits::VARIABLE_SECTION_LIMIT;
 use crate::limits::VARIABLE_SIZE;
-use crate::nesting::first_broken;
 use crate::refusal::Refusal;
 use crate::variable::first_bad_record;
+use crate::walk::Walked;
+use crate::walk::walk;
 ghost use mathlib.Core.Path.{_≡_};
-ghost use Prim.Native.Nat.{_+_, _/_, _≤_};
+ghost use Prim.Native.Nat.{ℕ, _+_, _/_, _≤_};
 ghost use lib.ListN.{length};
 ghost use Rattle.program.specs.Field.{pairAt};
 ghost use Rattle.program.specs.Layout.{variableSection, codeSection, codeSections, reading};
 ghost use Rattle.program.specs.Layout as File;
 ghost use Rattle.program.specs.Limits.{threadLimit, instructionSize};
+ghost use Rattle.program.specs.Internal.Rows.{AreLimits, limitsOf, rowTable};
 ghost use Rattle.program.specs.Internal.Answered.{fieldAnswer, readingAnswer};
 
 // The counts of a sound file, by which every section is found.
@@ -69,22 +71,21 @@ fn variable_section(s: &[u8], c: Cursor, locks: usize, threads: usize) -> Field
 }
 
 // One thread's code section: all its instructions, then its nesting.
-fn code_section(s: &[u8], c: Cursor, locks: usize, variables: usize) -> Field
-    ensures { λ r. ⌜ fieldAnswer r ≡ codeSection locks variables (now (s .entry)) c ⌝ }
+fn code_section(rows: &[u8], limits: &[u16], s: &[u8], c: Cursor) -> Field
+    requires { ⌜ (now rows ≡ rowTable) × AreLimits (now limits) ⌝ }
+    ensures { λ r. ⌜ ((locks variables : ℕ) → now (limits .entry) ≡ limitsOf locks variables
+        → fieldAnswer r ≡ codeSection locks variables (now (s .entry)) c) ⌝ }
 {
     let f = section(s, c, INSTRUCTION_SIZE, CODE_SECTION_LIMIT);
     let Field::Value(n, first) = f else {
         return f;
     };
     let start = first.at;
-    let bad = first_bad_instruction(s, start, n, locks, variables);
-    if let Found::At(d) = bad {
-        return Field::Refused(Refusal::Instruction(d));
-    }
-    let broken = first_broken(s, start, n);
-    match broken {
-        Found::At(d) => Field::Refused(Refusal::Nesting(d)),
-        Found::Nowhere => Field::Value(
+    let walked = walk(rows, limits, s, start, n);
+    match walked {
+        Walked::Invalid(d) => Field::Refused(Refusal::Instruction(d)),
+        Walked::Broken(d) => Field::Refused(Refusal::Nesting(d)),
+        Walked::Nested => Field::Value(
             n,
             Cursor {
                 at: start + INSTRUCTION_SIZE * n,
@@ -94,15 +95,16 @@ fn code_section(s: &[u8], c: Cursor, locks: usize, variables: usize) -> Field
 }
 
 // The code sections of n threads: how many instructions they have together.
-fn code_sections(s: &[u8], c: Cursor, n: usize, locks: usize, variables: usize) -> Field
-    requires { ⌜ n ≤ threadLimit ⌝ }
-    ensures { λ r. ⌜ fieldAnswer r ≡ codeSections locks variables (now (s .entry)) n c ⌝ }
+fn code_sections(rows: &[u8], limits: &[u16], s: &[u8], c: Cursor, n: usize) -> Field
+    requires { ⌜ (now rows ≡ rowTable) × AreLimits (now limits) × (n ≤ threadLimit) ⌝ }
+    ensures { λ r. ⌜ ((locks variables : ℕ) → now (limits .entry) ≡ limitsOf locks variables
+        → fieldAnswer r ≡ codeSections locks variables (now (s .entry)) n c) ⌝ }
 {
     let mut at = c.at;
     let mut left = n;
     let mut total: usize = 0;
     while 0 < left {
-        let f = code_section(s, Cursor { at }, locks, variables);
+        let f = code_section(rows, limits, s, Cursor { at });
         let Field::Value(count, d) = f else {
             return f;
         };
@@ -114,7 +116,8 @@ fn code_sections(s: &[u8], c: Cursor, n: usize, locks: usize, variables: usize) 
 }
 
 // The whole file: three bytes, the variable section, a code section for each thread, and nothing left over.
-fn fields(s: &[u8]) -> Field
+fn fields(rows: &[u8], s: &[u8]) -> Field
+    requires { ⌜ now rows ≡ rowTable ⌝ }
     ensures { λ r. ⌜ fieldAnswer r ≡ File.fields (now (s .entry)) ⌝ }
 {
     let f = byte_field(s, Cursor { at: 0 });
@@ -145,7 +148,8 @@ fn fields(s: &[u8]) -> Field
     let Field::Value(variables, c4) = f else {
         return f;
     };
-    let f = code_sections(s, c4, threads, locks, variables);
+    let limits = limits_of(locks, variables);
+    let f = code_sections(rows, &limits, s, c4, threads);
     let Field::Value(instructions, c5) = f else {
         return f;
     };
@@ -157,10 +161,11 @@ fn fields(s: &[u8]) -> Field
 }
 
 // A file read front to back: sound, or the first offence.
-pub fn read(s: &[u8]) -> Reading
+pub fn read(rows: &[u8], s: &[u8]) -> Reading
+    requires { ⌜ now rows ≡ rowTable ⌝ }
     ensures { λ r. ⌜ readingAnswer r ≡ reading (now (s .entry)) ⌝ }
 {
-    let f = fields(s);
+    let f = fields(rows, s);
     match f {
         Field::Value(n, _) => Reading::Sound(Layout {
             locks: byte_at(s, 1),

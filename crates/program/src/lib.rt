@@ -6,4 +6,6 @@ pub mod layout;
 pub mod limits;
 pub mod nesting;
 pub mod refusal;
+pub mod sections;
 pub mod variable;
+pub mod walk;

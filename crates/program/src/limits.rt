@@ -43,6 +43,8 @@ pub const LINE_SIZE: usize = 48;
 pub const BENCH_LIMIT: usize = LARGEST_FILE + 1;
 
 // Bounds.
+pub const CODE_LIMIT: usize = THREAD_LIMIT;
+
 pub const PROGRAM_LIMIT: usize = THREAD_LIMIT * INSTRUCTION_LIMIT;
 
 pub const LINE_LIMIT: usize = 4 + VARIABLE_LIMIT + THREAD_LIMIT + PROGRAM_LIMIT + THREAD_LIMIT;

@@ -1,21 +1,16 @@
 // Nesting (document 01, "The file": from "A place is an instruction's index in its thread" on): a scan with a stack of open entries.
-use crate::found::Found;
-use crate::instruction::Form;
-use crate::instruction::form_of;
-use crate::instruction::valid_instruction_at;
+use crate::instruction::Instruction;
 use crate::limits::ENTRY_LIMIT;
-use crate::limits::INSTRUCTION_SIZE;
 ghost use mathlib.Core.Path.{_≡_};
 ghost use mathlib.Core.Bool.{not};
-ghost use mathlib.Core.List.{List, []};
-ghost use Prim.Native.Nat.{ℕ, _+_, _-_, _*_, _^_, _≤_, _<_};
+ghost use mathlib.Core.List.{List};
+ghost use Prim.Native.Nat.{ℕ, _-_, _^_, _<_};
 ghost use lib.ListN.{length, getD};
-ghost use Rattle.program.specs.Nesting.{unnamed, opening, passing, atElse, atAgain, atEnd, nest, firstBroken};
+ghost use lib.Dec.{eqb};
+ghost use Rattle.program.specs.Instruction.{formOf};
+ghost use Rattle.program.specs.Nesting.{unnamed, opening, passing, atElse, atAgain, atEnd, nest};
 ghost use Rattle.program.specs.Nesting as Nesting;
-ghost use Rattle.program.specs.Layout.{instructionsAt, offsetFrom};
-ghost use Rattle.program.specs.Internal.Sound.{AllValid};
-ghost use Rattle.program.specs.Limits.{instructionSize};
-ghost use Rattle.program.specs.Internal.Change.{under, Fulfils, entriesOf};
+ghost use Rattle.program.specs.Internal.Change.{under, nowhere, Fulfils, entriesOf};
 
 // The entries that openers open. Each names the place of its closer.
 pub enum Entry {
@@ -50,7 +45,7 @@ pub enum Turn {
 }
 
 // The place that an entry names.
-fn named(e: Entry) -> usize
+pub fn named(e: Entry) -> usize
     ensures { λ r. ⌜ r ≡ Nesting.named e ⌝ }
 {
     match e {
@@ -178,33 +173,33 @@ fn wide(x: u16) -> usize
     x as usize
 }
 
-// What an instruction of this form does at place p.
-fn turn_at(p: usize, f: Form, top: Top, depth: usize) -> Turn
+// What an instruction does at place p.
+pub fn turn_at(p: usize, i: Instruction, top: Top, depth: usize) -> Turn
     requires { ⌜ p < 2 ^ 62 ⌝ }
-    ensures { λ r. ⌜ ((below : List Entry) → length (under top below) ≡ depth → Fulfils r top below (nest p f (under top below))) ⌝ }
+    ensures { λ r. ⌜ ((below : List Entry) → length (under top below) ≡ depth → Fulfils r top below (nest p (formOf i) (under top below))) ⌝ }
 {
-    match f {
-        Form::Plain => at_plain(p, top),
-        Form::If(_, d) => {
+    match i {
+        Instruction::If(_, d) => {
             let n = wide(d);
             at_opener(p, n, Entry::Then(p + n), top, depth)
         }
-        Form::Else(d) => at_else(p, wide(d), top),
-        Form::While(_, d) => {
+        Instruction::Else(d) => at_else(p, wide(d), top),
+        Instruction::While(_, d) => {
             let n = wide(d);
             at_opener(p, n, Entry::Loop(p + n, n), top, depth)
         }
-        Form::Again(d) => at_again(p, wide(d), top),
-        Form::Atomic(d) => {
+        Instruction::Again(d) => at_again(p, wide(d), top),
+        Instruction::Atomic(d) => {
             let n = wide(d);
             at_opener(p, n, Entry::Block(p + n), top, depth)
         }
-        Form::End => at_end(p, top),
+        Instruction::End => at_end(p, top),
+        _ => at_plain(p, top),
     }
 }
 
 // The open entries are elements 1 to `depth` of an array, the last of them innermost; e is the element at `depth`.
-fn innermost(e: Entry, depth: usize) -> Top
+pub fn innermost(e: Entry, depth: usize) -> Top
     ensures { λ r. ⌜ ((entries : List Entry) → e ≡ getD entries depth (Entry.Then 0)
         → entriesOf depth entries ≡ under r (entriesOf (depth - 1) entries)) ⌝ }
 {
@@ -214,41 +209,15 @@ fn innermost(e: Entry, depth: usize) -> Top
     Top::Holds(e)
 }
 
-// Where nesting of n valid instructions is first broken, as an offset: that of the instruction, or the section's end if an entry is
-// open there.
-pub fn first_broken(s: &[u8], start: usize, n: usize) -> Found
-    requires { ⌜ start + instructionSize * n ≤ length (now s) ⌝ }
-    ensures { λ r. ⌜ ((locks variables : ℕ) → AllValid locks variables (now (s .entry)) n start
-        → r ≡ offsetFrom start (firstBroken 0 (instructionsAt locks variables (now (s .entry)) n start) [])) ⌝ }
+// No place: more than any that an entry can name.
+pub const NOWHERE: usize = 1048576;
+
+// The place that the innermost entry names, if there is one.
+pub fn named_place(top: Top) -> usize
+    ensures { λ r. ⌜ ((p : ℕ) (below : List Entry) → p < nowhere → unnamed p (under top below) ≡ not (eqb r p)) ⌝ }
 {
-    let mut entries = [Entry::Block(0); ENTRY_LIMIT + 1];
-    let mut depth = 0;
-    let mut p = 0;
-    while p < n {
-        let at = start + INSTRUCTION_SIZE * p;
-        let f = form_of(valid_instruction_at(s, at));
-        let e = entries[depth];
-        let t = turn_at(p, f, innermost(e, depth), depth);
-        let Turn::Goes(ch) = t else {
-            return Found::At(at);
-        };
-        p += 1;
-        match ch {
-            Change::Keep => {}
-            Change::Push(e) => {
-                depth += 1;
-                entries[depth] = e;
-            }
-            Change::Replace(e) => {
-                entries[depth] = e;
-            }
-            Change::Pop => {
-                depth -= 1;
-            }
-        }
+    match top {
+        Top::Empty => NOWHERE,
+        Top::Holds(e) => named(e),
     }
-    if depth == 0 {
-        return Found::Nowhere;
-    }
-    Found::At(start + INSTRUCTION_SIZE * n)
 }

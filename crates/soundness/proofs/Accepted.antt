@@ -12,7 +12,7 @@ use Rattle.judge.specs.Judging.{judge, judgeCode, judgeCodes, judgeProgram}
 use Rattle.judge.specs.LockSet.{empty}
 use Rattle.program.specs.Access.{accessOf}
 use Rattle.program.proofs.Contents.{length-instructions, getD-instructions, length-variables}
-use Rattle.program.proofs.Decode.{instruction-fields}
+use Rattle.program.proofs.Decode.{instruction-access}
 use Rattle.program.proofs.Structure.{nested-flat}
 use Rattle.program.specs.Answer.{fine}
 use Rattle.program.specs.Code.{structure, structured}
@@ -49,7 +49,7 @@ unfolding accessOf
 accesses-at locks variables s n at q = dite (decLt q n)
     (λ (h : q < n).
     subst (λ (i : Instruction). AccessBelow locks variables (accessOf i)) (sym (getD-instructions locks variables s n at q h))
-    (instruction-fields locks variables s (at + 4 * q) .1))
+    (instruction-access locks variables s (at + 4 * q)))
     (λ (k : ¬ (q < n)).
     let out : length (instructionsAt locks variables s n at) ≤ q = omega (arith, length-instructions locks variables s n at) in
     subst (λ (i : Instruction). AccessBelow locks variables (accessOf i)) (sym (List·getD-eq-default (instructionsAt locks variables s n at) End out)) tt)

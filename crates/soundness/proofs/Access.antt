@@ -3,6 +3,7 @@
 use Prim.Native.Nat.{ℕ}
 use mathlib.Core.Path.{_≡_}
 use mathlib.Core.Bool.{true, false, not}
+use borrow.Author.Tests.{not-true}
 use Rattle.judge.specs.Discipline.{kindAt, permits, accessedSet, lockSetAfter}
 use Rattle.program.proofs.Answer.{fine-inj, require-inv}
 use Rattle.judge.specs.LockSet.{holds, withLock, withoutLock}
@@ -11,8 +12,7 @@ use Rattle.program.specs.Access.{Access, none, reads, writes, takes, gives, acc
 use Rattle.program.specs.Answer.{fine}
 use Rattle.program.specs.Layout.{Program}
 use Rattle.program.specs.declared.instruction.Instruction.{Instruction}
-use Rattle.judge.specs.Internal.Verdicts.{setAfter}
-use Rattle.soundness.specs.Internal.Access.{Permitted, none-permitted, read-permitted, write-permitted, take-permitted, give-permitted}
+use Rattle.soundness.specs.Internal.Access.{setAfter, Permitted, none-permitted, read-permitted, write-permitted, take-permitted, give-permitted}
 use Rattle.judge.specs.Rules.{Legal}
 
 access-permitted : (p : Program) (t d : ℕ) (x : Access) (s : LockSet) {s′ : LockSet} → accessedSet p t d x s ≡ fine s′ → Permitted p t s x
@@ -20,7 +20,7 @@ unfolding accessedSet
 access-permitted p t d none s e = none-permitted
 access-permitted p t d (reads v) s e = require-inv (permits (kindAt p v) t s false) _ _ e λ h f. read-permitted h
 access-permitted p t d (writes v a) s e = require-inv (permits (kindAt p v) t s true) _ _ e λ h f. write-permitted h
-access-permitted p t d (takes k) s e = take-permitted
+access-permitted p t d (takes k) s e = require-inv (not (holds s k)) _ _ e λ h f. take-permitted (not-true (holds s k) h)
 access-permitted p t d (gives k) s e = require-inv (holds s k) _ _ e λ h f. give-permitted h
 
 access-set : (p : Program) (t d : ℕ) (x : Access) (s : LockSet) {s′ : LockSet} → accessedSet p t d x s ≡ fine s′ → setAfter x s ≡ s′

@@ -10,19 +10,18 @@ use mathlib.Core.Path.{_≡_, sym, _∙_, subst}
 use mathlib.Core.Logic.{_≢_, dite}
 use mathlib.Core.Bool.{Bool, true, false}
 use mathlib.Core.List.{List}
-use lib.ListN.{length, getD, set}
+use lib.ListN.{length, getD}
 use lib.Seq.{getD-set-same, getD-set-other}
 use lib.Dec.{eqb}
-use Rattle.judge.specs.LockSet.{holds, withLock, withoutLock}
+use Rattle.judge.specs.LockSet.{holds, withoutLock}
 use Rattle.judge.specs.declared.lock_set.LockSet.{LockSet}
+use Rattle.judge.proofs.LockSets.{with-other, without-self, without-other}
 use Rattle.program.proofs.Differ.{differ}
-use Rattle.program.proofs.Lists.{getD-set-self}
 use Rattle.program.specs.Access.{Access, none, reads, writes, takes, gives}
 use Rattle.machine.specs.Step.{waits, locksAfter}
 use Rattle.program.specs.Layout.{Program}
 use Rattle.program.specs.Internal.Sound.{AccessBelow}
-use Rattle.judge.specs.Internal.Verdicts.{setAfter}
-use Rattle.soundness.specs.Internal.Access.{Permitted, give-permitted, Owns}
+use Rattle.soundness.specs.Internal.Access.{setAfter, Permitted, take-permitted, give-permitted, Owns}
 
 -- a lock that a TAKE may take is free
 pub take-free : (k : ℕ) (ks : List ℕ) → waits (takes k) ks ≡ false → getD ks k 0 ≡ 0
@@ -36,19 +35,19 @@ set-unset e f = differ cc
 module _ {p : Program} {t : ℕ} {s : LockSet} {ks : List ℕ} (mine : Owns t s ks) where
   -- the thread that moves holds what its lock set says afterwards
   pub owns-moved : (x : Access) → Permitted p t s x → AccessBelow (length ks) (length (p .variables)) x → Owns t (setAfter x s) (locksAfter x t ks)
-  unfolding setAfter locksAfter holds withLock withoutLock
+  unfolding setAfter locksAfter
   owns-moved none h b = mine
   owns-moved (reads v) h b = mine
   owns-moved (writes v a) h b = mine
-  owns-moved (takes k) h b = record {
+  owns-moved (takes k) (take-permitted unheld) b = record {
     owner = λ j e. dite (ℕ-discrete j k)
         (λ (i : j ≡ k). rw i (getD-set-same ks k (t + 1) 0 b))
-        (λ (n : j ≢ k). getD-set-other ks k j (t + 1) 0 n ∙ mine .owner j (sym (getD-set-other (s .held) k j true false n) ∙ e));
+        (λ (n : j ≢ k). getD-set-other ks k j (t + 1) 0 n ∙ mine .owner j (sym (with-other s k unheld j n) ∙ e));
   }
-  owns-moved (gives k) h b = record {
+  owns-moved (gives k) (give-permitted held) b = record {
     owner = λ j e. dite (ℕ-discrete j k)
-        (λ (i : j ≡ k). absurd (set-unset (subst (λ (x : ℕ). getD (set (s .held) k false) x false ≡ true) i e) (getD-set-self (s .held) k false)))
-        (λ (n : j ≢ k). getD-set-other ks k j 0 0 n ∙ mine .owner j (sym (getD-set-other (s .held) k j false false n) ∙ e));
+        (λ (i : j ≡ k). absurd (set-unset (subst (λ (x : ℕ). holds (withoutLock s k) x ≡ true) i e) (without-self s k held)))
+        (λ (n : j ≢ k). getD-set-other ks k j 0 0 n ∙ mine .owner j (sym (without-other s k held j n) ∙ e));
   }
 
   -- and every other thread what it held

@@ -6,11 +6,11 @@ use native.Mathlib.Decide.{decLt}
 use native.Mathlib.Omega.{arith}
 use mathlib.Core.Path.{_≡_, refl, sym, ap, _∙_, subst}
 use mathlib.Core.Logic.{dite}
-use mathlib.Core.Bool.{false}
 use mathlib.Core.List.{List}
-use lib.ListN.{length, replicate, length-replicate, getD-replicate, List·getD-eq-default}
-use Rattle.judge.specs.LockSet.{empty, holds}
+use lib.ListN.{length, replicate, length-replicate, List·getD-eq-default}
+use Rattle.judge.specs.LockSet.{empty}
 use Rattle.judge.specs.declared.lock_set.LockSet.{LockSet}
+use Rattle.judge.proofs.LockSets.{empty-holds}
 use Rattle.machine.specs.Block.{NobodyInside, Uninterrupted}
 use Rattle.machine.specs.Run.{run}
 use Rattle.machine.specs.State.{State, threadOf, start, fresh}
@@ -18,7 +18,6 @@ use Rattle.machine.specs.declared.thread.Thread.{Thread}
 use Rattle.program.proofs.Differ.{differ}
 use Rattle.program.proofs.Lists.{getD-replicate-same}
 use Rattle.program.specs.Layout.{Program}
-use Rattle.program.specs.Limits.{lockLimit}
 use Rattle.reduction.specs.Moves.{outside}
 use Rattle.reduction.specs.Reduction.{Quiescent}
 use Rattle.reduction.proofs.Reduction.{reduction, same-length, same-precedence}
@@ -43,15 +42,6 @@ start-fresh p t = getD-replicate-same (p .threads) t fresh
 start-place : (p : Program) (t : ℕ) → threadOf (start p) t .place ≡ 0
 unfolding fresh
 start-place p t = ap (λ (th : Thread). th .place) (start-fresh p t)
-
--- the empty set holds nothing
-empty-holds : (k : ℕ) → holds empty k ≡ false
-unfolding holds empty
-empty-holds k = dite (decLt k lockLimit)
-    (λ (h : k < lockLimit). getD-replicate lockLimit k false false h)
-    (λ (n : ¬ (k < lockLimit)).
-    let h : length (replicate lockLimit false) ≤ k = omega arith in
-    List·getD-eq-default (replicate lockLimit false) false h)
 
 owns-empty : (t : ℕ) (ks : List ℕ) → Owns t empty ks
 owns-empty t ks = record { owner = λ k e. let f = empty-holds k in differ cc }

@@ -1,7 +1,12 @@
-//! The files that are measured.
+//! The files and lists that are measured.
 
-use hogunlas_reference::generate::encode_file;
+use hogunlas::MAX_LIST;
+use hogunlas_reference::generate::{self, encode_file, Rng};
 use hogunlas_reference::instruction::Instruction::{self, *};
+
+const THREADS: usize = 8;
+const INSTRUCTIONS: usize = 1_024;
+const MAX_OPEN: usize = 16;
 
 const GUARDED_BY_K0: [u8; 6] = [0, 0, 0, 0, 0, 7];
 
@@ -10,8 +15,15 @@ fn file(code: &[Vec<Instruction>]) -> Vec<u8> {
     encode_file(16, &[GUARDED_BY_K0; 64], code)
 }
 
+/// A file of the largest size, all of whose threads have this code.
+fn largest(code: Vec<Instruction>) -> Vec<u8> {
+    let file = file(&vec![code; THREADS]);
+    assert_eq!(file.len(), hogunlas::MAX_FILE);
+    file
+}
+
 /// TAKE k0, READs, GIVE k0: so many instructions in all.
-fn guarded_reads(instructions: usize) -> Vec<Instruction> {
+fn reads(instructions: usize) -> Vec<Instruction> {
     let mut code = vec![Take { lock: 0 }];
     code.extend((1..instructions - 1).map(|place| Read {
         to: (place % 8) as u8,
@@ -21,39 +33,106 @@ fn guarded_reads(instructions: usize) -> Vec<Instruction> {
     code
 }
 
-/// The largest file there is.
-pub fn full_of_reads() -> Vec<u8> {
-    let file = file(&vec![guarded_reads(1_024); 8]);
-    assert_eq!(file.len(), hogunlas::MAX_FILE);
-    file
+pub fn guarded_reads() -> Vec<u8> {
+    largest(reads(INSTRUCTIONS))
 }
 
 /// One thread of so many instructions.
 pub fn one_thread(instructions: usize) -> Vec<u8> {
-    file(&[guarded_reads(instructions)])
+    file(&[reads(instructions)])
+}
+
+/// Nothing but IF, WHILE and ATOMIC with their closers, one construct after the other.
+pub fn flat_constructs() -> Vec<u8> {
+    largest(filled_with((0..3).map(|kind| construct(kind, &[]))))
+}
+
+/// The same constructs within each other, 16 deep; at the end, less deep ones fill the room.
+pub fn nested_constructs() -> Vec<u8> {
+    let nest = |depth| (0..depth).fold(Vec::new(), |body, level| construct(level, &body));
+    largest(filled_with((1..=MAX_OPEN).rev().map(nest)))
+}
+
+/// An IF, a WHILE or an ATOMIC around a body; the IF has the body as its then part.
+fn construct(kind: usize, body: &[Instruction]) -> Vec<Instruction> {
+    let (test, distance) = (0, body.len() as u16 + 1);
+    let (opener, closers) = match kind % 3 {
+        0 => (If { test, distance }, vec![Else { distance: 1 }, End]),
+        1 => (While { test, distance }, vec![Again { distance }]),
+        _ => (Atomic { distance }, vec![End]),
+    };
+    [&[opener], body, &closers].concat()
+}
+
+/// A thread's code: rounds of all parts while they fit, then single parts, then SETs.
+fn filled_with(parts: impl Iterator<Item = Vec<Instruction>>) -> Vec<Instruction> {
+    let parts: Vec<_> = parts.collect();
+    let round = parts.concat();
+    let mut code = round.repeat(INSTRUCTIONS / round.len());
+    for part in parts {
+        let room = INSTRUCTIONS - code.len();
+        code.extend(part.repeat(room / part.len()));
+    }
+    code.resize(INSTRUCTIONS, Set { to: 0, number: 0 });
+    code
+}
+
+/// Accepted files of the largest size with random code of every kind. There are several, so that
+/// the processor can't learn one by heart.
+pub fn random_code() -> Vec<Vec<u8>> {
+    let file = |seed| generate::largest_file(&mut Rng::new(seed));
+    (0..8).map(file).collect()
+}
+
+/// Guarded READs, but the last instruction has an unknown op.
+pub fn last_op_unknown() -> Vec<u8> {
+    last_instruction([0xFF, 0, 0, 0])
+}
+
+/// Guarded READs, but the last instruction opens an entry.
+pub fn last_entry_open() -> Vec<u8> {
+    last_instruction(Atomic { distance: 1 }.encode())
+}
+
+fn last_instruction(word: [u8; 4]) -> Vec<u8> {
+    let mut file = guarded_reads();
+    let at = file.len() - word.len();
+    file[at..].copy_from_slice(&word);
+    file
 }
 
 /// Eight threads that never end. In each round a thread adds to v0 in a block and then calculates
 /// for a while, so that most steps move and some wait.
 pub fn busy_threads() -> Vec<u8> {
-    let body = [&add_to_v0()[..], &calculate().repeat(12)].concat();
+    endless(&[&add_to_v0()[..], &calculate().repeat(12)].concat())
+}
+
+/// Eight threads that do nothing but add to v0 under its lock, so that most steps wait.
+pub fn contending_threads() -> Vec<u8> {
+    endless(&add_to_v0())
+}
+
+/// Eight threads that end after their first step.
+pub fn ended_threads() -> Vec<u8> {
+    file(&vec![vec![Set { to: 0, number: 1 }]; THREADS])
+}
+
+fn endless(body: &[Instruction]) -> Vec<u8> {
     let distance = body.len() as u16 + 1;
     let start = [Set { to: 1, number: 1 }, While { test: 1, distance }];
-    let thread = [&start[..], &body, &[Again { distance }]].concat();
-    file(&vec![thread; 8])
+    let thread = [&start[..], body, &[Again { distance }]].concat();
+    file(&vec![thread; THREADS])
 }
 
 fn add_to_v0() -> [Instruction; 7] {
-    let (to, left, right) = (2, 2, 1);
+    let (to, from, variable) = (2, 2, 0);
+    let (left, right) = (2, 1);
     [
         Atomic { distance: 6 },
         Take { lock: 0 },
-        Read { to, variable: 0 },
+        Read { to, variable },
         Add { to, left, right },
-        Write {
-            from: 2,
-            variable: 0,
-        },
+        Write { from, variable },
         Give { lock: 0 },
         End,
     ]
@@ -61,19 +140,29 @@ fn add_to_v0() -> [Instruction; 7] {
 
 fn calculate() -> [Instruction; 6] {
     let (to, left, right) = (3, 3, 1);
+    let is_less = Less {
+        to: 4,
+        left: 3,
+        right: 2,
+    };
+    let (test, distance) = (4, 2);
     [
-        Less {
-            to: 4,
-            left: 3,
-            right: 2,
-        },
-        If {
-            test: 4,
-            distance: 2,
-        },
+        is_less,
+        If { test, distance },
         Copy { to, from: 2 },
-        Else { distance: 2 },
+        Else { distance },
         Sub { to, left, right },
         End,
     ]
+}
+
+/// The longest list, a step of each thread in turn.
+pub fn round_robin() -> Vec<u8> {
+    (0..MAX_LIST).map(|index| (index % THREADS) as u8).collect()
+}
+
+/// The longest list, any thread at each step.
+pub fn random_list() -> Vec<u8> {
+    let mut rng = Rng::new(1);
+    (0..MAX_LIST).map(|_| rng.below(THREADS) as u8).collect()
 }

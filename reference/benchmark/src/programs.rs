@@ -8,12 +8,12 @@ use std::process::{Command, Stdio};
 
 use hogunlas_reference::printout::BENCH_INPUT;
 
-use crate::{timed, Times};
+use crate::times::{timed, Times};
 
 /// The word by which this program is told to be the reimplementation's bench.
 const REFERENCE_BENCH: &str = "reference-bench";
 
-const RUNS: usize = 200;
+const TURNS: usize = 200;
 
 /// The verified program: `HOGUNLAS_BENCH`, or what `rt check` leaves, if it is there.
 pub fn verified() -> Option<PathBuf> {
@@ -47,10 +47,10 @@ pub fn measure(program: &Path, file: &[u8]) -> Times {
         printed == output(&mut reference, file),
         "the two sides must do the same work"
     );
-    crate::measure(
-        RUNS,
-        || timed(|| output(&mut verified, file)),
-        || timed(|| output(&mut reference, file)),
+    Times::measure(
+        TURNS,
+        |_| timed(1, || output(&mut verified, file)),
+        |_| timed(1, || output(&mut reference, file)),
     )
 }
 

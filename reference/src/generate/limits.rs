@@ -7,9 +7,6 @@ use crate::instruction::Instruction::{self, *};
 use crate::nesting::MAX_OPEN;
 use crate::reader::{MAX_INSTRUCTIONS, MAX_LOCKS, MAX_THREADS, MAX_VARIABLES};
 
-/// What closers and last GIVEs may add to a thread's code at most, generously.
-const CLOSERS: usize = 160;
-
 /// A file at one of the limits, or just past it.
 pub fn limit_file(rng: &mut Rng) -> Vec<u8> {
     match rng.below(8) {
@@ -37,10 +34,19 @@ fn largest_source(rng: &mut Rng) -> Source {
     source
 }
 
-/// Accepted code of exactly 1,024 instructions.
+/// Accepted code of exactly 1,024 instructions: pieces that each end with no lock held, and COPYs
+/// where no further piece has room. A piece exceeds its length by closers and last GIVEs.
 fn full_code(rng: &mut Rng, source: &Source, thread: u8) -> Vec<Instruction> {
-    let scope = Scope::new(source, thread, Style::Careful, MAX_OPEN, true);
-    let mut code = Writer::new(rng, scope).write(MAX_INSTRUCTIONS - CLOSERS);
+    let mut code = Vec::new();
+    loop {
+        let room = MAX_INSTRUCTIONS - code.len();
+        let scope = Scope::new(source, thread, Style::Careful, MAX_OPEN, true);
+        let piece = Writer::new(rng, scope).write(room / 2);
+        if piece.is_empty() || piece.len() > room {
+            break;
+        }
+        code.extend(piece);
+    }
     code.resize(MAX_INSTRUCTIONS, Copy { to: 1, from: 2 });
     code
 }

@@ -1,13 +1,20 @@
 -- `judge` meets its contract: the file's refusals, a buffer that is too short, or the report copied over the buffer. Assumes nothing.
-use borrow.Author.Needs.{needs}
 use native.Mathlib.Omega.{arith}
 use Rattle.hogunlas.proofs.JudgeCall.{as-accepted, as-refused, report-within, report-front-length, judge-refused, judge-short, judge-done}
+use borrow.Author.Needs.{needs}
 use Rattle.hogunlas.proofs.judge.Statement.{statement}
 use Rattle.hogunlas.proofs.judge.Tie as tie
 
--- `let judging = judge_file(file, &mut report)`
+-- `let rows = row_table()`
+row-table-requires : tie.Need-row-table-requires
+row-table-requires c κs = search needs
+
+-- `let judging = judge_file(&rows, file, &mut starts, &mut counts, &mut report)`
 slice-aggregate-judge-file : tie.Need-slice-aggregate-judge-file
 slice-aggregate-judge-file c = search needs
+
+slice-aggregate-judge-file-2 : tie.Need-slice-aggregate-judge-file-2
+slice-aggregate-judge-file-2 c = search needs
 
 judge-file-requires : tie.Need-judge-file-requires
 judge-file-requires c κs = search needs
@@ -20,48 +27,43 @@ enum-known-judging c = search needs
 enum-known-judging-2 : tie.Need-enum-known-judging-2
 enum-known-judging-2 c = search needs
 
--- `Judging::Refused(refusal) => Judged::Refused(refusal)`
+-- `return Judged::Refused(Refusal::ShortBuffer(n))`
 returns : tie.Need-returns
 returns c =
-    let args = c .before .before .before .before .before .before .before .before .before .args in
-    let found = as-accepted _ _ _ _ (c .before .before .judging2 .given .1) (c .before .before .before .before .before .judge-file .ensures) in
-    judge-short (args .file .now) (args .out .now) found (c .if1 .taken)
+    let found = as-accepted _ _ _ _ _ _ (c .before .before .judging2 .given .1) (c .before .before .before .before .before .judge-file .ensures) in
+    judge-short (c .before .before .before .before .before .before .before .before .before .before .before .before .before .args .file .now) (c .before .before .before .before .before .before .before .before .before .before .before .before .before .args .out .now) found (c .if1 .taken)
 
 -- `bytes::copy(&report[..n], out)`
 array-share-prefix-report : tie.Need-array-share-prefix-report
-array-share-prefix-report c =
-    report-within (as-accepted _ _ _ _ (c .before .before .judging2 .given .1) (c .before .before .before .before .before .judge-file .ensures))
+array-share-prefix-report c = let found = as-accepted _ _ _ _ _ _ (c .before .before .judging2 .given .1) (c .before .before .before .before .before .judge-file .ensures) in report-within found
 
 slice-aggregate-copy : tie.Need-slice-aggregate-copy
-slice-aggregate-copy c =
-    report-front-length (as-accepted _ _ _ _ (c .before .before .before .judging2 .given .1) (c .before .before .before .before .before .before .judge-file .ensures))
+slice-aggregate-copy c = let found = as-accepted _ _ _ _ _ _ (c .before .before .before .judging2 .given .1) (c .before .before .before .before .before .before .judge-file .ensures) in report-front-length found
 
 copy-requires : tie.Need-copy-requires
 copy-requires c κs =
-    let found = as-accepted _ _ _ _ (c .before .before .before .before .judging2 .given .1) (c .before .before .before .before .before .before .before .judge-file .ensures) in
+    let found = as-accepted _ _ _ _ _ _ (c .before .before .before .before .judging2 .given .1) (c .before .before .before .before .before .before .before .judge-file .ensures) in
     omega (arith, report-front-length found, c .before .before .if1 .left)
 
--- `return Judged::Refused(Refusal::ShortBuffer(n))`
 returns-2 : tie.Need-returns-2
 returns-2 c =
-    let args = c .before .before .before .before .before .before .before .before .args in
-    judge-refused (args .file .now) (args .out .now) _ (as-refused _ _ _ _ (c .before .judging .given .1) (c .before .before .before .before .judge-file .ensures))
+    judge-refused (c .before .before .before .before .before .before .before .before .before .before .before .before .args .file .now) (c .before .before .before .before .before .before .before .before .before .before .before .before .args .out .now) _ (as-refused _ _ _ _ _ _ (c .before .judging .given .1) (c .before .before .before .before .judge-file .ensures))
 
 same-length : tie.Need-same-length
 same-length c = search needs
 
--- `Judged::Report(n)`
 returns-3 : tie.Need-returns-3
 returns-3 c =
-    let args = c .before .before .before .before .before .before .before .before .before .before .before .before .before .before .args in
-    let found = as-accepted _ _ _ _ (c .before .before .before .before .before .before .before .judging2 .given .1) (c .before .before .before .before .before .before .before .before .before .before .judge-file .ensures) in
-    judge-done (args .file .now) (args .out .now) found (c .before .before .before .before .before .if1 .left) (c .before .before .copy .last .1 .0) (c .before .before .copy .ensures .1)
+    let found = as-accepted _ _ _ _ _ _ (c .before .before .before .before .before .before .before .judging2 .given .1) (c .before .before .before .before .before .before .before .before .before .before .judge-file .ensures) in
+    judge-done (c .before .before .before .before .before .before .before .before .before .before .before .before .before .before .before .before .before .before .args .file .now) (c .before .before .before .before .before .before .before .before .before .before .before .before .before .before .before .before .before .before .args .out .now) found (c .before .before .before .before .before .if1 .left) (c .before .before .copy .last .1 .0) (c .before .before .copy .ensures .1)
 
 pub judge-spec : {M : Type 1} → statement M
 judge-spec =
     tie.close
     (tie.spec
+    row-table-requires
     slice-aggregate-judge-file
+    slice-aggregate-judge-file-2
     judge-file-requires
     enum-known-judging
     enum-known-judging-2

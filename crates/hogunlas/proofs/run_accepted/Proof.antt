@@ -1,21 +1,19 @@
 -- `run_accepted` meets its contract: each `return` is a case of the definition, in the order of the caller's refusals. Assumes nothing.
-use borrow.Author.Needs.{needs}
 use native.Mathlib.Omega.{arith}
 use mathlib.Core.Path.{sym, _∙_}
-use Rattle.hogunlas.proofs.Opening.{opened-sound}
 use Rattle.hogunlas.proofs.Running.{every-entry, run-long, run-thread, run-short, run-done}
+use borrow.Author.Needs.{needs}
 use Rattle.hogunlas.proofs.run_accepted.Statement.{statement}
 use Rattle.hogunlas.proofs.run_accepted.Tie as tie
 
 -- `return Ran::Refused(Refusal::LongList(LIST_LIMIT))`
 returns : tie.Need-returns
 returns c =
-    let start = c .before .before .before .before in
-    run-long (start .args .file .now) (start .args .list .now) (start .args .out .now) (start .args .l) (start .pre .report) (start .pre .opened) (c .if1 .taken)
+    run-long (c .before .before .before .before .before .args .file .now) (c .before .before .before .before .before .args .list .now) (c .before .before .before .before .before .args .out .now) (c .before .before .before .before .before .args .l) (c .before .before .before .before .before .pre .1 .report) (c .before .before .before .before .before .pre .1 .opened) (c .if1 .taken)
 
 -- `let found = first_bad_thread(list, l.threads)`
 first-bad-thread-requires : tie.Need-first-bad-thread-requires
-first-bad-thread-requires c κs = search needs
+first-bad-thread-requires c κs = c .before .before .before .before .before .pre .2 .sound .threads
 
 -- `Found::At(i) => Ran::Refused(Refusal::ThreadNumber(i))`
 enum-known-found : tie.Need-enum-known-found
@@ -26,48 +24,37 @@ enum-told : tie.Need-enum-told
 enum-told c = search needs
 
 mul-size : tie.Need-mul-size
-mul-size c = omega (arith, opened-sound (c .before .before .before .before .before .before .before .before .pre))
+mul-size c = omega (arith, c .before .before .before .before .before .before .before .before .before .pre .2 .sound)
 
 add-size : tie.Need-add-size
-add-size c = omega (arith, opened-sound (c .before .before .before .before .before .before .before .before .before .pre))
+add-size c = omega (arith, c .before .before .before .before .before .before .before .before .before .before .pre .2 .sound)
 
 mul-size-2 : tie.Need-mul-size-2
-mul-size-2 c = omega (arith, opened-sound (c .before .before .before .before .before .before .before .before .before .before .pre))
+mul-size-2 c = omega (arith, c .before .before .before .before .before .before .before .before .before .before .before .pre .2 .sound)
 
 add-size-2 : tie.Need-add-size-2
-add-size-2 c = omega (arith, opened-sound (c .before .before .before .before .before .before .before .before .before .before .pre))
-
--- `Found::At(i) => Ran::Refused(Refusal::ThreadNumber(i))`
-returns-2 : tie.Need-returns-2
-returns-2 c =
-    let start = c .before .before .before .before .before .before .before .before .before .before .before in
-    run-short (start .args .file .now) (start .args .list .now) (start .args .out .now) (start .args .l) (start .pre .report) (start .pre .opened) (c .before .before .before .before .before .before .before .if1 .left)
-    (sym (c .before .before .before .before .before .before .first-bad-thread .ensures) ∙ c .before .before .before .before .enum-told .given .1) (c .if2 .taken)
-
--- `let counts = run_list(file, l, list, out)`
-run-list-requires : tie.Need-run-list-requires
-run-list-requires c κs =
-    let start = c .before .before .before .before .before .before .before .before .before .before .before .before in (
-      opened-sound (start .pre),
-      every-entry (start .args .l) (start .args .list .now) (sym (c .before .before .before .before .before .before .before .first-bad-thread .ensures) ∙ c .before .before .before .before .before .enum-told .given .1),
-      c .before .if2 .left,
-    )
+add-size-2 c = omega (arith, c .before .before .before .before .before .before .before .before .before .before .before .pre .2 .sound)
 
 -- `return Ran::Refused(Refusal::ShortBuffer(size))`
+returns-2 : tie.Need-returns-2
+returns-2 c =
+    run-short (c .before .before .before .before .before .before .before .before .before .before .before .before .args .file .now) (c .before .before .before .before .before .before .before .before .before .before .before .before .args .list .now) (c .before .before .before .before .before .before .before .before .before .before .before .before .args .out .now) (c .before .before .before .before .before .before .before .before .before .before .before .before .args .l) (c .before .before .before .before .before .before .before .before .before .before .before .before .pre .1 .report) (c .before .before .before .before .before .before .before .before .before .before .before .before .pre .1 .opened) (c .before .before .before .before .before .before .before .if1 .left)
+    (sym (c .before .before .before .before .before .before .first-bad-thread .ensures) ∙ c .before .before .before .before .enum-told .given .1) (c .if2 .taken)
+
+-- `let ran = run_list(rows, file, l, starts, counts, list, out)`
+run-list-requires : tie.Need-run-list-requires
+run-list-requires c κs = (c .before .before .before .before .before .before .before .before .before .before .before .before .before .pre .0, c .before .before .before .before .before .before .before .before .before .before .before .before .before .pre .2, every-entry (c .before .before .before .before .before .before .before .before .before .before .before .before .before .args .l) (c .before .before .before .before .before .before .before .before .before .before .before .before .before .args .list .now) (sym (c .before .before .before .before .before .before .before .first-bad-thread .ensures) ∙ c .before .before .before .before .before .enum-told .given .1), c .before .if2 .left)
+
 returns-3 : tie.Need-returns-3
 returns-3 c =
-    let start = c .before .before .before .before .before .before .before .before in
-    run-thread (start .args .file .now) (start .args .list .now) (start .args .out .now) (start .args .l) (start .pre .report) (start .pre .opened) (c .before .before .before .before .if1 .left) _
-    (sym (c .before .before .before .first-bad-thread .ensures) ∙ c .before .found .given .1)
+    run-thread (c .before .before .before .before .before .before .before .before .before .args .file .now) (c .before .before .before .before .before .before .before .before .before .args .list .now) (c .before .before .before .before .before .before .before .before .before .args .out .now) (c .before .before .before .before .before .before .before .before .before .args .l) (c .before .before .before .before .before .before .before .before .before .pre .1 .report) (c .before .before .before .before .before .before .before .before .before .pre .1 .opened) (c .before .before .before .before .if1 .left) _ (sym (c .before .before .before .first-bad-thread .ensures) ∙ c .before .found .given .1)
 
 same-length : tie.Need-same-length
 same-length c = search needs
 
--- `Ran::Counted(counts.moved, counts.waiting, counts.idle)`
 returns-4 : tie.Need-returns-4
 returns-4 c =
-    let start = c .before .before .before .before .before .before .before .before .before .before .before .before .before .before .before in
-    run-done (start .args .file .now) (start .args .list .now) (start .args .out .now) (start .args .l) (start .pre .report) (start .pre .opened) (c .before .before .before .before .before .before .before .before .before .before .before .if1 .left)
+    run-done (c .before .before .before .before .before .before .before .before .before .before .before .before .before .before .before .before .args .file .now) (c .before .before .before .before .before .before .before .before .before .before .before .before .before .before .before .before .args .list .now) (c .before .before .before .before .before .before .before .before .before .before .before .before .before .before .before .before .args .out .now) (c .before .before .before .before .before .before .before .before .before .before .before .before .before .before .before .before .args .l) (c .before .before .before .before .before .before .before .before .before .before .before .before .before .before .before .before .pre .1 .report) (c .before .before .before .before .before .before .before .before .before .before .before .before .before .before .before .before .pre .1 .opened) (c .before .before .before .before .before .before .before .before .before .before .before .if1 .left)
     (sym (c .before .before .before .before .before .before .before .before .before .before .first-bad-thread .ensures) ∙ c .before .before .before .before .before .before .before .before .enum-told .given .1)
     (c .before .before .before .before .if2 .left) (c .before .before .run-list .result) (c .before .before .run-list .ensures .0) _ (c .before .before .run-list .ensures .1)
 

@@ -6,18 +6,13 @@
 --     LaidWord, LaidWords, LaidLine
 --                           ... a word, words, a line of words
 --     WrittenLine           a whole line at the buffer's start
---     formWords             the words that an instruction's form adds to its line
 use Prim.Native.Nat.{ℕ, _+_, _≤_}
 use mathlib.Core.Path.{_≡_}
 use mathlib.Core.List.{List, [], _∷_, _++_}
 use lib.ListN.{length, drop}
 use lib.Seq.{sets}
 use Rattle.program.specs.Limits.{lineSize}
-use Rattle.program.specs.declared.instruction.Form.{Form}
-use Rattle.program.specs.declared.instruction.Form.the-variants as form
-use Rattle.program.specs.declared.instruction.Instruction.the-variants.{If, Else, While, Again, Atomic, End}
 use Rattle.printout.specs.Text.{decimal, lineOf}
-use Rattle.printout.specs.Line.{instructionWords}
 
 -- a word and the byte that ends it: a blank, or the line's newline
 unfoldable pub ended : List ℕ → ℕ → List ℕ
@@ -52,13 +47,3 @@ pub record WrittenLine (line buffer after : List ℕ) (size : ℕ) : Type 0 wher
   pub counted : size ≡ length line
   pub bytes : after ≡ line ++ drop (length line) buffer
   pub short : size ≤ lineSize
-
--- the words of an instruction that opens or closes, by its form
-unfoldable pub formWords : Form → List (List ℕ)
-formWords form.Plain = []
-formWords (form.If a n) = instructionWords (If a n)
-formWords (form.Else n) = instructionWords (Else n)
-formWords (form.While a n) = instructionWords (While a n)
-formWords (form.Again n) = instructionWords (Again n)
-formWords (form.Atomic n) = instructionWords (Atomic n)
-formWords form.End = instructionWords End

@@ -2,6 +2,10 @@
 use Prim.Native.Nat.{ℕ, _+_, _*_}
 use Rattle.program.specs.Limits.{threadLimit, variableLimit, instructionLimit, lineSize}
 
+-- a file's codes: one for each thread
+abbrev pub codeLimit : ℕ
+codeLimit = threadLimit
+
 -- the instructions of all threads together
 abbrev pub programLimit : ℕ
 programLimit = threadLimit * instructionLimit

@@ -1,6 +1,7 @@
 -- The open entries as the code holds them, and what one instruction does to them: how the contracts of src/nesting.rt's inner functions
 -- cite the definitions of Nesting, which are over lists. Nothing above that module cites it.
 --     entriesOf                  the open entries of an array
+--     nowhere                    no place
 --     under, changed, turned     the innermost with those below it; the entries after a change, after a turn
 --     entriesAfter, depthAfter   the array and the depth after a change
 --     Room, RoomOf               a change, a turn, has room
@@ -24,6 +25,10 @@ use Rattle.program.specs.declared.nesting.Turn.the-variants.{Broken, Goe
 -- the open entries of an array, d of them, innermost first
 abbrev pub entriesOf : ℕ → List Entry → List Entry
 entriesOf d xs = stackOf (Then 0) d xs
+
+-- no place: more than any that an entry can name
+abbrev pub nowhere : ℕ
+nowhere = 1048576
 
 -- the innermost entry with those below it
 abbrev pub under : Top → List Entry → List Entry

@@ -1,6 +1,7 @@
 -- What an instruction may do and what it is, by its shared access alone; and when two accesses are independent. Only the proof of
 -- demand 3 speaks of it.
 --     Permitted            a thread may make the access
+--     setAfter             the lock set behind the access
 --     AccessesBelow        instructions name only locks and variables that there are
 --     Owns                 a thread holds the locks of a set
 --     NoLock, NoVariable   an access touches no lock, no variable
@@ -16,7 +17,7 @@ use Rattle.atomicity.specs.Atomicity.{atMost}
 use Rattle.atomicity.specs.declared.Atomicity.{Atomicity}
 use Rattle.atomicity.specs.declared.Atomicity.the-variants.{Left, Right}
 use Rattle.judge.specs.Discipline.{kindAt, permits}
-use Rattle.judge.specs.LockSet.{holds}
+use Rattle.judge.specs.LockSet.{holds, withLock, withoutLock}
 use Rattle.judge.specs.declared.lock_set.LockSet.{LockSet}
 use Rattle.program.specs.Access.{Access, none, reads, writes, takes, gives, accessOf}
 use Rattle.machine.specs.Step.{waits, valueRead, variablesAfter, locksAfter}
@@ -30,8 +31,16 @@ pub data Permitted (p : Program) (t : ℕ) (s : LockSet) : Access → Type 0 whe
   none-permitted : Permitted p t s none
   read-permitted : {v : ℕ} → permits (kindAt p v) t s false ≡ true → Permitted p t s (reads v)
   write-permitted : {v a : ℕ} → permits (kindAt p v) t s true ≡ true → Permitted p t s (writes v a)
-  take-permitted : {k : ℕ} → Permitted p t s (takes k)
+  take-permitted : {k : ℕ} → holds s k ≡ false → Permitted p t s (takes k)
   give-permitted : {k : ℕ} → holds s k ≡ true → Permitted p t s (gives k)
+
+-- the lock set behind an access: "TAKE adds its lock, GIVE takes it out"
+unfoldable pub setAfter : Access → LockSet → LockSet
+setAfter none s = s
+setAfter (reads v) s = s
+setAfter (writes v a) s = s
+setAfter (takes k) s = withLock s k
+setAfter (gives k) s = withoutLock s k
 
 -- each instruction's lock or variable is one that there is
 abbrev pub AccessesBelow : Program → List Instruction → Type 0

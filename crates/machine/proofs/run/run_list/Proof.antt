@@ -17,11 +17,7 @@ use Rattle.machine.proofs.run.run_list.Tie as tie
 initial-values-requires : tie.Need-initial-values-requires
 initial-values-requires c κs = search needs
 
--- `find_code(s, l, &mut starts, &mut sizes)`
-find-code-requires : tie.Need-find-code-requires
-find-code-requires c κs = search needs
-
--- `let ran = entries(s, l, list, starts, sizes, &mut variables, &mut locks)`
+-- `let ran = entries(`
 entries-requires : tie.Need-entries-requires
 entries-requires c κs = search needs
 
@@ -34,35 +30,36 @@ slice-aggregate-write-state-2 c = search needs
 
 write-state-requires : tie.Need-write-state-requires
 write-state-requires c κs =
-    let b = c .before .before .before .before .before .before .before .before .before .before .before .before .before .before .before in
+    let f = c .before .before .before .before .before .before .before .before .before .before .before .before .before .pre .1 .sound in
     let k = c .before .before .before .before .entries .ensures .1 in
-    (omega arith, (omega (arith, k .variables, b .pre .0 .variables), omega (arith, k .locks, b .pre .0 .locks), b .pre .0 .threads, k .registers))
+    (omega arith, (omega (arith, k .variables, f .variables), omega (arith, k .locks, f .locks), f .threads, k .registers))
 
 same-length : tie.Need-same-length
 same-length c = search needs
 
 -- what the entries left is the whole list's run
 entries-ran : (c : tie.After-entries)
-    → let a = c .before .before .before .before .before .before .before .before .before .before .before .args in
+    → let a = c .before .before .before .before .before .before .before .before .before .args in
     run (programOf (a .s .now) (a .l)) (a .list .now)
-    ≡ finalIn (a .l) (c .entries .result) (c .entries .last .1 .1 .1 .1 .1 .0) (c .entries .last .1 .1 .1 .1 .1 .1 .0)
+    ≡ finalIn (a .l) (c .entries .result) (c .entries .last .1 .1 .1 .1 .1 .1 .0) (c .entries .last .1 .1 .1 .1 .1 .1 .1 .0)
 unfolding run fresh
 entries-ran c =
-    let b = c .before .before .before .before .before .before .before .before .before .before .before in
+    let b = c .before .before .before .before .before .before .before .before .before in
     let a = b .args in
-    rw (← start-in (a .s .now) (a .l) (c .before .before .before .before .before .before .initial-values .last .1 .1 .0) (b .pre .0 .locks) (b .pre .0 .threads) (c .before .before .before .before .before .before .initial-values .ensures .1))
+    let v = c .before .before .before .initial-values in
+    rw (← start-in (a .s .now) (a .l) (v .last .1 .1 .0) (b .pre .1 .sound .locks) (b .pre .1 .sound .threads) (v .ensures .1))
     (c .entries .ensures .0)
 
 returns : tie.Need-returns
 returns c =
-    let b = c .before .before .before .before .before .before .before .before .before .before .before .before .before .before .before .before .before .before .before in
+    let b = c .before .before .before .before .before .before .before .before .before .before .before .before .before .before .before .before .before in
     let a = b .args in
     let p = programOf (a .s .now) (a .l) in
     let e = entries-ran (c .before .before .before .before .before .before .before .before) in (
       ap (λ (r : Run). r .counts) (sym e),
       c .before .before .before .write-state .ensures
           ∙ ap (λ (r : Run). sets (a .out .now) 0 (stateBytes (r .state))) (sym e)
-          ∙ sets-front (a .out .now) (stateBytes (run p (a .list .now) .state)) (omega (arith, length-end-file (a .s .now) (a .l) (a .list .now), b .pre .2)),
+          ∙ sets-front (a .out .now) (stateBytes (run p (a .list .now) .state)) (omega (arith, length-end-file (a .s .now) (a .l) (a .list .now), b .pre .3)),
     )
 
 pub run-list-spec : {M : Type 1} → statement M
@@ -70,7 +67,6 @@ run-list-spec =
     tie.close
     (tie.spec
     initial-values-requires
-    find-code-requires
     entries-requires
     slice-aggregate-write-state
     slice-aggregate-write-state-2

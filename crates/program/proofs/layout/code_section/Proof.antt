@@ -1,27 +1,36 @@
 -- `code_section` meets its contract. Assumes nothing.
-use Prim.Native.Nat.{_+_, _*_, _≤_}
-use mathlib.Core.Path.{_≡_, sym, ap, _∙_}
+use Prim.Native.Nat.{ℕ}
+use mathlib.Core.Path.{sym, ap, _∙_}
 use mathlib.Core.List.{[]}
-use lib.ListN.{length}
 use native.Mathlib.Omega.{arith}
 use borrow.Author.Needs.{needs}
-use Rattle.program.specs.Instruction.{isValid, decodeAt}
 use Rattle.program.specs.Layout.{codeSection, instructionsAt, offsetFrom}
 use Rattle.program.specs.Limits.{instructionSize, codeSectionLimit}
 use Rattle.program.specs.Nesting.{firstBroken}
-use Rattle.program.specs.declared.cursor.Cursor.{Cursor}
 use Rattle.program.specs.Internal.Answered.{fieldAnswer}
-use Rattle.program.proofs.ReadBack.{section-value}
-use Rattle.program.proofs.Search.{firstBad-nowhere}
+use Rattle.program.specs.Internal.Walk.{firstInvalid}
+use Rattle.program.specs.declared.found.Found.{Found}
+use Rattle.program.specs.declared.cursor.Cursor.{Cursor}
+use Rattle.program.proofs.Decode.{limits-length}
+use Rattle.program.proofs.ReadBack.{Head, section-value}
+use Rattle.program.proofs.Walking.{walked-invalid, walked-broken, walked-nested}
 use Rattle.program.proofs.layout.code_section.Statement.{statement}
 use Rattle.program.proofs.layout.code_section.Tie as tie
 
--- the records are inside the file
-records-inside : (u : tie.After-f) → u .f .given .0 .1 .0 .at + 4 * u .f .given .0 .0 ≤ length (u .before .before .before .before .args .s .now)
-records-inside u =
-    let a = u .before .before .before .before .args in
-    let h = section-value instructionSize codeSectionLimit (a .s .now) (a .c) (u .f .given .0 .0) (u .f .given .0 .1 .0) (sym (u .before .before .section .ensures) ∙ ap fieldAnswer (u .f .given .1)) in
-    omega (arith, ap (λ (x : Cursor). x .at) (h .start), h .whole)
+-- the section's head
+head-read : (u : tie.After-f) → let a = u .before .before .before .before .before .before .args in Head instructionSize codeSectionLimit (a .s .now) (a .c .at) (u .f .given .0 .0) (u .f .given .0 .1 .0)
+head-read u =
+    let a = u .before .before .before .before .before .before .args in
+    section-value instructionSize codeSectionLimit (a .s .now) (a .c) (u .f .given .0 .0) (u .f .given .0 .1 .0) (sym (u .before .before .section .ensures) ∙ ap fieldAnswer (u .f .given .1))
+
+-- the two searches
+abbrev invalidIn : tie.After-f → (locks variables : ℕ) → Found
+invalidIn u locks variables = firstInvalid locks variables (u .before .before .before .before .before .before .args .s .now) (u .f .given .0 .0) (u .f .given .0 .1 .0 .at)
+
+abbrev brokenIn : tie.After-f → (locks variables : ℕ) → Found
+brokenIn u locks variables =
+    let start = u .f .given .0 .1 .0 .at in
+    offsetFrom start (firstBroken 0 (instructionsAt locks variables (u .before .before .before .before .before .before .args .s .now) (u .f .given .0 .0) start) [])
 
 -- `let f = section(s, c, INSTRUCTION_SIZE, CODE_SECTION_LIMIT)`
 section-requires : tie.Need-section-requires
@@ -37,79 +46,57 @@ enum-told c = search needs
 
 returns : tie.Need-returns
 unfolding codeSection
-returns c = rw (← c .before .before .section .ensures, c .enum-told .given .1)
+returns c locks variables k = rw (← c .before .before .section .ensures, c .enum-told .given .1)
 
--- `let bad = first_bad_instruction(s, start, n, locks, variables)`
-first-bad-instruction-requires : tie.Need-first-bad-instruction-requires
-first-bad-instruction-requires c κs = records-inside (c .before)
+-- `let walked = walk(rows, limits, s, start, n)`
+walk-requires : tie.Need-walk-requires
+walk-requires c κs =
+    let h = head-read (c .before) in
+    let pre = c .before .before .before .before .before .before .before .pre in
+    (pre .0, limits-length _ (pre .1), omega (arith, ap (λ (x : Cursor). x .at) (h .start), h .whole), omega (arith, h .few))
 
--- `if let Found::At(d) = bad`
-enum-known-bad : tie.Need-enum-known-bad
-enum-known-bad c = search needs
+-- `Walked::Invalid(d) => Field::Refused(Refusal::Instruction(d))`
+enum-known-walked : tie.Need-enum-known-walked
+enum-known-walked c = search needs
 
--- `return Field::Refused(Refusal::Instruction(d))`
-returns-2 : tie.Need-returns-2
-unfolding codeSection
-returns-2 c = rw (← c .before .before .before .before .before .before .before .section .ensures, c .before .before .before .before .before .f .given .1, ← c .before .before .before .first-bad-instruction .ensures, c .before .bad .given .1)
+-- `Walked::Broken(d) => Field::Refused(Refusal::Nesting(d))`
+enum-known-walked-2 : tie.Need-enum-known-walked-2
+enum-known-walked-2 c = search needs
 
+-- `Walked::Nested => Field::Value ..`
 enum-told-2 : tie.Need-enum-told-2
 enum-told-2 c = search needs
 
--- `let broken = first_broken(s, start, n)`
-first-broken-requires : tie.Need-first-broken-requires
-first-broken-requires c κs = records-inside (c .before .before .before .before)
-
--- where nesting is looked at each instruction is valid
-broken-there : (u : tie.After-first-broken) → u .first-broken .result
-    ≡ (let v = u .before .before .before .before .before in
-    let a = v .before .before .before .before .args in
-    offsetFrom (v .f .given .0 .1 .0 .at) (firstBroken 0 (instructionsAt (a .locks) (a .variables) (a .s .now) (v .f .given .0 .0) (v .f .given .0 .1 .0 .at)) []))
-broken-there u =
-    let v = u .before .before .before .before .before in
-    let a = v .before .before .before .before .args in
-    u .first-broken .ensures (a .locks) (a .variables)
-    (firstBad-nowhere (λ p. isValid (decodeAt (a .locks) (a .variables) (a .s .now) p)) 4 (v .f .given .0 .0) (v .f .given .0 .1 .0 .at)
-    (sym (u .before .before .before .first-bad-instruction .ensures) ∙ u .before .enum-told2 .given .1))
-
--- `Found::At(d) => Field::Refused(Refusal::Nesting(d))`
-enum-known-broken : tie.Need-enum-known-broken
-enum-known-broken c = search needs
-
 -- `at: start + INSTRUCTION_SIZE * n`
-enum-told-3 : tie.Need-enum-told-3
-enum-told-3 c = search needs
+mul-t15 : tie.Need-mul-t15
+mul-t15 c = let h = head-read (c .before .before .before .before) in omega (arith, h .few)
 
-mul-t16 : tie.Need-mul-t16
-mul-t16 c = omega (arith, records-inside (c .before .before .before .before .before .before .before))
+add-t16 : tie.Need-add-t16
+add-t16 c = let h = head-read (c .before .before .before .before) in omega (arith, ap (λ (x : Cursor). x .at) (h .start), h .whole)
 
-add-t17 : tie.Need-add-t17
-add-t17 c = omega (arith, records-inside (c .before .before .before .before .before .before .before))
+-- `Walked::Invalid(d) => Field::Refused(Refusal::Instruction(d))`
+returns-2 : tie.Need-returns-2
+unfolding codeSection
+returns-2 c locks variables k =
+    rw (
+      ← c .before .before .before .before .before .before .before .section .ensures,
+      c .before .before .before .before .before .f .given .1,
+      walked-invalid (invalidIn (c .before .before .before .before .before) locks variables) (brokenIn (c .before .before .before .before .before) locks variables) (c .before .walked .given .0 .0) (sym (c .before .walked .given .1) ∙ c .before .before .before .walk .ensures locks variables k),
+    )
 
--- `Found::At(d) => Field::Refused(Refusal::Nesting(d))`
+-- `Walked::Broken(d) => Field::Refused(Refusal::Nesting(d))`
 returns-3 : tie.Need-returns-3
 unfolding codeSection
-returns-3 c =
-    rw (
-      ← c .before .before .before .before .before .before .before .before .before .before .section .ensures,
-      c .before .before .before .before .before .before .before .before .f .given .1,
-      ← c .before .before .before .before .before .before .first-bad-instruction .ensures,
-      c .before .before .before .before .enum-told2 .given .1,
-      ← broken-there (c .before .before .before),
-      c .before .broken .given .1,
-    )
+returns-3 c locks variables k =
+    let said = walked-broken (invalidIn (c .before .before .before .before .before) locks variables) (brokenIn (c .before .before .before .before .before) locks variables) _ (sym (c .before .walked2 .given .1) ∙ c .before .before .before .walk .ensures locks variables k) in
+    rw (← c .before .before .before .before .before .before .before .section .ensures, c .before .before .before .before .before .f .given .1, said .0, said .1)
 
--- `Found::Nowhere => Field::Value ..`
+-- `Walked::Nested => Field::Value ..`
 returns-4 : tie.Need-returns-4
 unfolding codeSection
-returns-4 c =
-    rw (
-      ← c .before .before .before .before .before .before .before .before .before .section .ensures,
-      c .before .before .before .before .before .before .before .f .given .1,
-      ← c .before .before .before .before .before .first-bad-instruction .ensures,
-      c .before .before .before .enum-told2 .given .1,
-      ← broken-there (c .before .before),
-      c .enum-told3 .given .1,
-    )
+returns-4 c locks variables k =
+    let said = walked-nested (invalidIn (c .before .before .before .before) locks variables) (brokenIn (c .before .before .before .before) locks variables) (sym (c .enum-told2 .given .1) ∙ c .before .before .walk .ensures locks variables k) in
+    rw (← c .before .before .before .before .before .before .section .ensures, c .before .before .before .before .f .given .1, said .0, said .1)
 
 pub code-section-spec : {M : Type 1} → statement M
 code-section-spec =
@@ -119,14 +106,12 @@ code-section-spec =
     enum-known-f
     enum-told
     returns
-    first-bad-instruction-requires
-    enum-known-bad
-    returns-2
+    walk-requires
+    enum-known-walked
+    enum-known-walked-2
     enum-told-2
-    first-broken-requires
-    enum-known-broken
-    enum-told-3
-    mul-t16
-    add-t17
+    mul-t15
+    add-t16
+    returns-2
     returns-3
     returns-4)

@@ -1,38 +1,54 @@
 -- `fields`: at each place, what is left of the definition. Assumes nothing.
-use mathlib.Core.Path.{_≡_, _∙_}
+use Prim.Native.Nat.{_≤_}
+use mathlib.Core.Path.{_≡_, sym, ap, _∙_}
+use native.Mathlib.Omega.{arith}
 use borrow.Author.Needs.{needs}
 use borrow.Author.Tests.{eq-eqb, ne-eqb, le-leb, lt-leb}
 use Rattle.program.specs.Answer.{_>>=_}
 use Rattle.program.specs.Field.{byteField}
 use Rattle.program.specs.Layout.{fields, variableSection, codeSections}
+use Rattle.program.specs.Limits.{lockLimit, variableLimit}
+use Rattle.program.specs.Internal.Answered.{fieldAnswer}
+use Rattle.program.proofs.ReadBack.{variables-value}
 use Rattle.program.proofs.Steps.{afterSections, afterVariables, afterThreads, afterLocks}
 use Rattle.program.proofs.layout.fields.Statement.{statement}
 use Rattle.program.proofs.layout.fields.Tie as tie
 
-to-locks : (u : tie.Else1) → fields (u .before .before .before .before .before .before .args .s .now) ≡ (byteField (u .before .before .before .before .before .before .args .s .now) (u .before .before .f .given .0 .1 .0) >>= afterLocks (u .before .before .before .before .before .before .args .s .now))
+to-locks : (u : tie.Else1) → fields (u .before .before .before .before .before .before .before .args .s .now) ≡ (byteField (u .before .before .before .before .before .before .before .args .s .now) (u .before .before .f .given .0 .1 .0) >>= afterLocks (u .before .before .before .before .before .before .before .args .s .now))
 unfolding fields
 to-locks u =
     rw (← u .before .before .before .before .byte-field .ensures, u .before .before .f .given .1, eq-eqb _ _ (u .if1 .left))
 
-to-threads : (u : tie.Else2) → fields (u .before .before .before .before .before .before .before .before .before .before .before .args .s .now) ≡ (byteField (u .before .before .before .before .before .before .before .before .before .before .before .args .s .now) (u .before .before .f2 .given .0 .1 .0) >>= afterThreads (u .before .before .before .before .before .before .before .before .before .before .before .args .s .now) (u .before .before .f2 .given .0 .0))
+to-threads : (u : tie.Else2) → fields (u .before .before .before .before .before .before .before .before .before .before .before .before .args .s .now) ≡ (byteField (u .before .before .before .before .before .before .before .before .before .before .before .before .args .s .now) (u .before .before .f2 .given .0 .1 .0) >>= afterThreads (u .before .before .before .before .before .before .before .before .before .before .before .before .args .s .now) (u .before .before .f2 .given .0 .0))
 to-threads u =
     to-locks (u .before .before .before .before .before)
     ∙ rw (← u .before .before .before .before .byte-field2 .ensures, u .before .before .f2 .given .1, le-leb _ _ (u .if2 .left))
 
-to-variables : (u : tie.Else4) → fields (u .before .before .before .before .before .before .before .before .before .before .before .before .before .before .before .before .before .args .s .now) ≡
-    (variableSection (u .before .before .before .before .before .before .before .before .f2 .given .0 .0) (u .before .before .before .f3 .given .0 .0) (u .before .before .before .before .before .before .before .before .before .before .before .before .before .before .before .before .before .args .s .now) (u .before .before .before .f3 .given .0 .1 .0) >>= afterVariables (u .before .before .before .before .before .before .before .before .before .before .before .before .before .before .before .before .before .args .s .now) (u .before .before .before .before .before .before .before .before .f2 .given .0 .0) (u .before .before .before .f3 .given .0 .0))
+to-variables : (u : tie.Else4) → fields (u .before .before .before .before .before .before .before .before .before .before .before .before .before .before .before .before .before .before .args .s .now) ≡
+    (variableSection (u .before .before .before .before .before .before .before .before .f2 .given .0 .0) (u .before .before .before .f3 .given .0 .0) (u .before .before .before .before .before .before .before .before .before .before .before .before .before .before .before .before .before .before .args .s .now) (u .before .before .before .f3 .given .0 .1 .0) >>= afterVariables (u .before .before .before .before .before .before .before .before .before .before .before .before .before .before .before .before .before .before .args .s .now) (u .before .before .before .before .before .before .before .before .f2 .given .0 .0) (u .before .before .before .f3 .given .0 .0))
 to-variables u =
     to-threads (u .before .before .before .before .before .before)
     ∙ rw (← u .before .before .before .before .before .byte-field3 .ensures, u .before .before .before .f3 .given .1, le-leb _ _ (u .before .if3 .left), le-leb _ _ (u .if4 .left))
 
-to-sections : (u : tie.After-known-told4) → fields (u .before .before .before .before .before .before .before .before .before .before .before .before .before .before .before .before .before .before .before .before .before .args .s .now) ≡
-    (codeSections (u .before .before .before .before .before .before .before .before .before .before .before .before .f2 .given .0 .0) (u .before .f4 .given .0 .0) (u .before .before .before .before .before .before .before .before .before .before .before .before .before .before .before .before .before .before .before .before .before .args .s .now) (u .before .before .before .before .before .before .before .f3 .given .0 .0) (u .before .f4 .given .0 .1 .0) >>= afterSections (u .before .before .before .before .before .before .before .before .before .before .before .before .before .before .before .before .before .before .before .before .before .args .s .now))
+to-sections : (u : tie.After-known-told4) → fields (u .before .before .before .before .before .before .before .before .before .before .before .before .before .before .before .before .before .before .before .before .before .before .args .s .now) ≡
+    (codeSections (u .before .before .before .before .before .before .before .before .before .before .before .before .f2 .given .0 .0) (u .before .f4 .given .0 .0) (u .before .before .before .before .before .before .before .before .before .before .before .before .before .before .before .before .before .before .before .before .before .before .args .s .now) (u .before .before .before .before .before .before .before .f3 .given .0 .0) (u .before .f4 .given .0 .1 .0) >>= afterSections (u .before .before .before .before .before .before .before .before .before .before .before .before .before .before .before .before .before .before .before .before .before .before .args .s .now))
 to-sections u =
     to-variables (u .before .before .before .before) ∙ rw (← u .before .before .before .variable-section .ensures, u .before .f4 .given .1)
 
-to-end : (u : tie.After-known-told5) → fields (u .before .before .before .before .before .before .before .before .before .before .before .before .before .before .before .before .before .before .before .before .before .before .before .before .before .args .s .now) ≡ afterSections (u .before .before .before .before .before .before .before .before .before .before .before .before .before .before .before .before .before .before .before .before .before .before .before .before .before .args .s .now) (u .before .f5 .given .0 .0, u .before .f5 .given .0 .1 .0)
+-- the numbers that the limits are of, and the sections that were read by them
+limits-small : (u : tie.After-known-told4) → (u .before .before .before .before .before .before .before .before .before .before .before .before .f2 .given .0 .0 ≤ lockLimit) × (u .before .f4 .given .0 .0 ≤ variableLimit)
+limits-small u =
+    let read = variables-value (u .before .before .before .before .before .before .before .before .before .before .before .before .f2 .given .0 .0) (u .before .before .before .before .before .before .before .f3 .given .0 .0) (u .before .before .before .before .before .before .before .before .before .before .before .before .before .before .before .before .before .before .before .before .before .before .args .s .now) (u .before .before .before .before .before .before .before .f3 .given .0 .1 .0) (u .before .f4 .given .0 .0) (u .before .f4 .given .0 .1 .0)
+    (sym (u .before .before .before .variable-section .ensures) ∙ ap fieldAnswer (u .before .f4 .given .1)) in
+    (u .before .before .before .before .before .before .before .before .before .before .if2 .left, omega (arith, read .head .few))
+
+sections-read : (u : tie.After-code-sections) → fieldAnswer (u .code-sections .result)
+    ≡ codeSections (u .before .before .before .before .before .before .before .before .before .before .before .before .before .before .before .f2 .given .0 .0) (u .before .before .before .before .f4 .given .0 .0) (u .before .before .before .before .before .before .before .before .before .before .before .before .before .before .before .before .before .before .before .before .before .before .before .before .before .args .s .now) (u .before .before .before .before .before .before .before .before .before .before .f3 .given .0 .0) (u .before .before .before .before .f4 .given .0 .1 .0)
+sections-read u = u .code-sections .ensures (u .before .before .before .before .before .before .before .before .before .before .before .before .before .before .before .f2 .given .0 .0) (u .before .before .before .before .f4 .given .0 .0) (u .before .before .limits-of .ensures)
+
+to-end : (u : tie.After-known-told5) → fields (u .before .before .before .before .before .before .before .before .before .before .before .before .before .before .before .before .before .before .before .before .before .before .before .before .before .before .before .before .args .s .now) ≡ afterSections (u .before .before .before .before .before .before .before .before .before .before .before .before .before .before .before .before .before .before .before .before .before .before .before .before .before .before .before .before .args .s .now) (u .before .f5 .given .0 .0, u .before .f5 .given .0 .1 .0)
 to-end u =
-    to-sections (u .before .before .before .before) ∙ rw (← u .before .before .before .code-sections .ensures, u .before .f5 .given .1)
+    to-sections (u .before .before .before .before .before .before) ∙ rw (← sections-read (u .before .before .before), u .before .f5 .given .1)
 
 -- `let f = byte_field(s, Cursor { at: 0 })`
 byte-field-requires : tie.Need-byte-field-requires
@@ -119,9 +135,16 @@ enum-told-4 c = search needs
 returns-8 : tie.Need-returns-8
 returns-8 c = rw (to-variables (c .before .before .before), ← c .before .before .variable-section .ensures, c .enum-told4 .given .1)
 
--- `let f = code_sections(s, c4, threads, locks, variables)`
+-- `let limits = limits_of(locks, variables)`
+limits-of-requires : tie.Need-limits-of-requires
+limits-of-requires c κs = limits-small c
+
+-- `let f = code_sections(rows, &limits, s, c4, threads)`
+slice-aggregate-code-sections : tie.Need-slice-aggregate-code-sections
+slice-aggregate-code-sections c = search needs
+
 code-sections-requires : tie.Need-code-sections-requires
-code-sections-requires c κs = search needs
+code-sections-requires c κs = (c .before .before .before .before .before .before .before .before .before .before .before .before .before .before .before .before .before .before .before .before .before .before .before .before .pre, (_, _, c .before .limits-of .ensures), c .before .before .before .before .before .before .if4 .left)
 
 -- `let Field::Value(instructions, c5) = f else`
 enum-known-f-5 : tie.Need-enum-known-f-5
@@ -132,7 +155,7 @@ enum-told-5 : tie.Need-enum-told-5
 enum-told-5 c = search needs
 
 returns-9 : tie.Need-returns-9
-returns-9 c = rw (to-sections (c .before .before .before), ← c .before .before .code-sections .ensures, c .enum-told5 .given .1)
+returns-9 c = rw (to-sections (c .before .before .before .before .before), ← sections-read (c .before .before), c .enum-told5 .given .1)
 
 -- `return Field::Refused(Refusal::LeftOver(end))`
 returns-10 : tie.Need-returns-10
@@ -166,6 +189,8 @@ fields-spec =
     enum-known-f-4
     enum-told-4
     returns-8
+    limits-of-requires
+    slice-aggregate-code-sections
     code-sections-requires
     enum-known-f-5
     enum-told-5

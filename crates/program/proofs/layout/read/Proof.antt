@@ -12,11 +12,11 @@ use Rattle.program.proofs.layout.read.Statement.{statement}
 use Rattle.program.proofs.layout.read.Tie as tie
 
 -- a value was read past the two bytes at 3
-five-bytes : (u : tie.After-f) → recordsStart ≤ length (u .before .before .before .before .args .s .now)
+five-bytes : (u : tie.After-f) → recordsStart ≤ length (u .before .before .before .before .before .args .s .now)
 five-bytes u =
-    fields-sound (u .before .before .before .before .args .s .now) (u .f .given .0 .0) (u .f .given .0 .1 .0) (sym (u .before .before .fields .ensures) ∙ ap fieldAnswer (u .f .given .1)) .1 .1 .section .length-there
+    fields-sound (u .before .before .before .before .before .args .s .now) (u .f .given .0 .0) (u .f .given .0 .1 .0) (sym (u .before .before .fields .ensures) ∙ ap fieldAnswer (u .f .given .1)) .1 .1 .section .length-there
 
--- `let f = fields(s)`
+-- `let f = fields(rows, s)`
 fields-requires : tie.Need-fields-requires
 fields-requires c κs = search needs
 

@@ -1,28 +1,21 @@
--- `LockSet::with` meets its contract: a set has 16 flags, and a number past them is no lock of it. Assumes nothing.
-use mathlib.Core.Path.{_≡_, refl}
-use borrow.Author.Needs.{needs}
+-- `with` meets its contract. Assumes nothing.
 use native.Mathlib.Omega.{arith}
-use lib.ListN.{length}
-use Rattle.program.specs.Limits.{lockLimit}
+use borrow.Author.Needs.{needs}
 use Rattle.judge.specs.LockSet.{withLock}
-use Rattle.judge.proofs.LockSets.{flags-of, with-out}
+use Rattle.judge.proofs.LockSets.{shifted, with-below}
 use Rattle.judge.proofs.lock_set.LockSet.with.Statement.{statement}
 use Rattle.judge.proofs.lock_set.LockSet.with.Tie as tie
 
--- `self.held[i] = true`
-element-write-self : tie.Need-element-write-self
-element-write-self c = search needs
+-- `bits: self.bits + (1 << k)`
+shl-t4 : tie.Need-shl-t4
+shl-t4 c = search needs
 
--- where the test holds
+add-t5 : tie.Need-add-t5
+add-t5 c = let x = c .before .args in rw (shifted (x .k) (c .before .pre .0)) (record { fits = with-below (x .self) (x .k) (c .before .pre .1) 16 (c .before .pre .0) (omega arith) })
+
 returns : tie.Need-returns
 unfolding withLock
-returns c = refl
-
--- where it does not
-returns-2 : tie.Need-returns-2
-returns-2 c =
-    let flags : length (c .before .args .t1 .held) ≡ lockLimit = flags-of (c .before .args .t1 .held) lockLimit (c .before .good .0 .1 .1 .0 .1 .0 .1) in
-    with-out (c .before .args .t1) (c .before .args .k) (omega arith)
+returns c = rw (shifted (c .before .args .k) (c .before .pre .0))
 
 pub with-spec : {M : Type 1} → statement M
-with-spec = tie.close (tie.spec element-write-self returns returns-2)
+with-spec = tie.close (tie.spec shl-t4 add-t5 returns)

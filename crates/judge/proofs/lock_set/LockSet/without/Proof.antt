@@ -1,28 +1,20 @@
--- `LockSet::without` meets its contract: a set has 16 flags, and a number past them is no lock of it. Assumes nothing.
-use mathlib.Core.Path.{_≡_, refl}
+-- `without` meets its contract. Assumes nothing.
 use borrow.Author.Needs.{needs}
-use native.Mathlib.Omega.{arith}
-use lib.ListN.{length}
-use Rattle.program.specs.Limits.{lockLimit}
 use Rattle.judge.specs.LockSet.{withoutLock}
-use Rattle.judge.proofs.LockSets.{flags-of, without-out}
+use Rattle.judge.proofs.LockSets.{shifted, without-above}
 use Rattle.judge.proofs.lock_set.LockSet.without.Statement.{statement}
 use Rattle.judge.proofs.lock_set.LockSet.without.Tie as tie
 
--- `self.held[i] = false`
-element-write-self : tie.Need-element-write-self
-element-write-self c = search needs
+-- `bits: self.bits - (1 << k)`
+shl-t4 : tie.Need-shl-t4
+shl-t4 c = search needs
 
--- where the test holds
+sub-t5 : tie.Need-sub-t5
+sub-t5 c = let x = c .before .args in rw (shifted (x .k) (c .before .pre .0)) (without-above (x .self) (x .k) (c .before .pre .1))
+
 returns : tie.Need-returns
 unfolding withoutLock
-returns c = refl
-
--- where it does not
-returns-2 : tie.Need-returns-2
-returns-2 c =
-    let flags : length (c .before .args .t1 .held) ≡ lockLimit = flags-of (c .before .args .t1 .held) lockLimit (c .before .good .0 .1 .1 .0 .1 .0 .1) in
-    without-out (c .before .args .t1) (c .before .args .k) (omega arith)
+returns c = rw (shifted (c .before .args .k) (c .before .pre .0))
 
 pub without-spec : {M : Type 1} → statement M
-without-spec = tie.close (tie.spec element-write-self returns returns-2)
+without-spec = tie.close (tie.spec shl-t4 sub-t5 returns)

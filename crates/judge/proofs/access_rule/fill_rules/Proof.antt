@@ -1,0 +1,73 @@
+-- `fill_rules`: the rules of the variables before v stand in both tables. Assumes nothing.
+use Prim.Native.Nat.{_-_}
+use native.Mathlib.Omega.{arith}
+use Rattle.judge.proofs.AccessRules.{RulesFilled, filled-start, filled-next, filled-end}
+use Rattle.judge.proofs.access_rule.fill_rules.Statement.{statement}
+use Rattle.judge.proofs.access_rule.fill_rules.Tie as tie
+
+abbrev Inv-loop : tie.InvT-loop
+Inv-loop s l code reads₀ writes₀ v₀ reads writes v = RulesFilled s l code reads writes v
+
+abbrev μ-loop : tie.MeasureT-loop
+μ-loop s l code reads₀ writes₀ v₀ reads writes v = l .variables - v
+
+loop-holds : tie.Need-loop-holds Inv-loop μ-loop
+loop-holds c = filled-start _ _ _ _ _ (c .before .pre .1) (c .before .pre .2)
+
+-- `let kind = kind_at(s, RECORDS_START + VARIABLE_SIZE * v, l.locks, l.threads)`
+mul-kind-at : tie.Need-mul-kind-at Inv-loop μ-loop
+mul-kind-at c = omega arith
+
+add-kind-at : tie.Need-add-kind-at Inv-loop μ-loop
+add-kind-at c = omega arith
+
+kind-at-requires : tie.Need-kind-at-requires Inv-loop μ-loop
+kind-at-requires c κs = omega (arith, c .before .before .before .before .pre .0 .section)
+
+-- `reads[v] = read_rule(kind, code)`
+read-rule-requires : tie.Need-read-rule-requires Inv-loop μ-loop
+read-rule-requires c κs = tt
+
+element-write-reads : tie.Need-element-write-reads Inv-loop μ-loop
+element-write-reads c = omega arith
+
+-- `writes[v] = write_rule(kind, code)`
+write-rule-requires : tie.Need-write-rule-requires Inv-loop μ-loop
+write-rule-requires c κs = tt
+
+element-write-writes : tie.Need-element-write-writes Inv-loop μ-loop
+element-write-writes c = omega arith
+
+-- `v += 1`
+add-v : tie.Need-add-v Inv-loop μ-loop
+add-v c = omega arith
+
+loop-less : tie.Need-loop-less Inv-loop μ-loop
+loop-less c = omega arith
+
+loop-again : tie.Need-loop-again Inv-loop μ-loop
+loop-again c =
+    rw (c .before .read-rule .ensures, c .write-rule .ensures, c .before .before .kind-at .ensures)
+    (filled-next _ _ (c .before .before .before .before .before .before .before .pre .0) _ _ _ _ (c .before .before .before .before .before .loop .inv) (c .before .before .before .if1 .taken))
+
+returns : tie.Need-returns Inv-loop μ-loop
+returns c = filled-end _ _ (c .before .before .before .before .pre .0) _ _ _ _ (c .before .before .loop .inv) (c .if1 .left)
+
+pub fill-rules-spec : {M : Type 1} → statement M
+fill-rules-spec =
+    tie.close
+    (tie.spec
+    Inv-loop
+    μ-loop
+    loop-holds
+    mul-kind-at
+    add-kind-at
+    kind-at-requires
+    read-rule-requires
+    element-write-reads
+    write-rule-requires
+    element-write-writes
+    add-v
+    loop-less
+    loop-again
+    returns)

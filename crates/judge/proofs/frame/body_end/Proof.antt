@@ -1,0 +1,21 @@
+-- `body_end` meets its contract. Assumes nothing.
+use borrow.Author.Needs.{needs}
+use Rattle.judge.proofs.frame.body_end.Statement.{statement}
+use Rattle.judge.proofs.frame.body_end.Tie as tie
+
+-- `if at_while.same(locks)`
+same-requires : tie.Need-same-requires
+same-requires c κs = search needs
+
+-- `return Closed::Whole(sofar.closure())`
+closure-requires : tie.Need-closure-requires
+closure-requires c κs = search needs
+
+returns : tie.Need-returns
+returns c = rw (c .closure .ensures, ← c .before .before .same .ensures, c .before .if1 .taken)
+
+returns-2 : tie.Need-returns-2
+returns-2 c = rw (← c .before .same .ensures, c .if1 .left)
+
+pub body-end-spec : {M : Type 1} → statement M
+body-end-spec = tie.close (tie.spec same-requires closure-requires returns returns-2)

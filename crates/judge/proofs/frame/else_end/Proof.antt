@@ -1,0 +1,21 @@
+-- `else_end` meets its contract. Assumes nothing.
+use borrow.Author.Needs.{needs}
+use Rattle.judge.proofs.frame.else_end.Statement.{statement}
+use Rattle.judge.proofs.frame.else_end.Tie as tie
+
+-- `if then_locks.same(locks)`
+same-requires : tie.Need-same-requires
+same-requires c κs = search needs
+
+-- `return Closed::Whole(first.join(sofar))`
+join-requires : tie.Need-join-requires
+join-requires c κs = search needs
+
+returns : tie.Need-returns
+returns c = rw (c .join .ensures, ← c .before .before .same .ensures, c .before .if1 .taken)
+
+returns-2 : tie.Need-returns-2
+returns-2 c = rw (← c .before .same .ensures, c .if1 .left)
+
+pub else-end-spec : {M : Type 1} → statement M
+else-end-spec = tie.close (tie.spec same-requires join-requires returns returns-2)

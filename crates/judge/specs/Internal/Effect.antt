@@ -1,0 +1,48 @@
+-- What an instruction does in the walk over a code, as `effect_of` answers it: a second way to say `lockSetAfter` and `atomicityOf`, with
+-- which `proofs/Effects.antt` shows that it agrees.
+--     passing        an access that is allowed
+--     accessEffect   a plain instruction, by the access that it makes
+--     formEffect     an opener or a closer
+--     effectOf       any instruction
+use Prim.Native.Nat.{ℕ}
+use mathlib.Core.Bool.{true, false}
+use Rattle.atomicity.specs.Atomicity.{by}
+use Rattle.atomicity.specs.declared.Atomicity.{Atomicity}
+use Rattle.program.specs.Access.{Access, none, reads, writes, takes, gives, accessOf}
+use Rattle.program.specs.Choice.{choose}
+use Rattle.program.specs.Instruction.{formOf}
+use Rattle.program.specs.Layout.{Program}
+use Rattle.program.specs.declared.instruction.Form.{Form}
+use Rattle.program.specs.declared.instruction.Form.the-variants as form
+use Rattle.program.specs.declared.instruction.Instruction.{Instruction}
+use Rattle.program.specs.declared.refusal.Refusal.the-variants as refusal
+use Rattle.judge.specs.Discipline.{kindAt, permits, accessAtomicity}
+use Rattle.judge.specs.LockSet.{holds}
+use Rattle.judge.specs.declared.effect.Effect.{Effect}
+use Rattle.judge.specs.declared.effect.Effect.the-variants.{Nothing, Single, Takes, Gives, Opens, Closes, Refused}
+use Rattle.judge.specs.declared.frame.Part.the-variants as part
+use Rattle.judge.specs.declared.lock_set.LockSet.{LockSet}
+
+-- a read or a write is B or A
+abbrev pub passing : Atomicity → Effect
+passing = by Nothing Single Single Single Single
+
+unfoldable pub accessEffect : Program → (c d : ℕ) → Access → LockSet → Effect
+accessEffect p c d none s = Nothing
+accessEffect p c d (reads v) s = choose (permits (kindAt p v) c s false) (passing (accessAtomicity p c v false)) (Refused (refusal.Access d))
+accessEffect p c d (writes v a) s = choose (permits (kindAt p v) c s true) (passing (accessAtomicity p c v true)) (Refused (refusal.Access d))
+accessEffect p c d (takes k) s = choose (holds s k) (Refused (refusal.Taken d)) (Takes k)
+accessEffect p c d (gives k) s = choose (holds s k) (Gives k) (Refused (refusal.NotTaken d))
+
+-- an opener or a closer; a plain instruction has this effect
+unfoldable pub formEffect : Form → (plain : Effect) → Effect
+formEffect form.Plain plain = plain
+formEffect (form.If a n) plain = Opens part.Then
+formEffect (form.Else n) plain = Closes
+formEffect (form.While a n) plain = Opens part.Body
+formEffect (form.Again n) plain = Closes
+formEffect (form.Atomic n) plain = Opens part.Block
+formEffect form.End plain = Closes
+
+unfoldable pub effectOf : Program → (c d : ℕ) → Instruction → LockSet → Effect
+effectOf p c d i s = formEffect (formOf i) (accessEffect p c d (accessOf i) s)

@@ -1,0 +1,74 @@
+// What a variable asks of a code that reads or writes it (document 01, "Lock discipline": "A guarded variable is read or written only
+// with its lock in the set; ..."; "Atomicities"), as a byte, worked out once for each code.
+use program::layout::Layout;
+use program::limits::RECORDS_START;
+use program::limits::VARIABLE_LIMIT;
+use program::limits::VARIABLE_SIZE;
+use program::variable::Kind;
+use program::variable::kind_at;
+ghost use mathlib.Core.Path.{_≡_};
+ghost use mathlib.Core.Bool.{false, true};
+ghost use lib.ListN.{length};
+ghost use Rattle.program.specs.Choice.{choose};
+ghost use Rattle.program.specs.Limits.{variableLimit};
+ghost use Rattle.program.specs.Internal.Sound.{SoundFile};
+ghost use Rattle.judge.specs.Internal.Rule.{free, never, ruleOf, RuleTables};
+
+// The access is B. Below 16 stands the lock that is to be held, and then the access is B too.
+pub const FREE: u8 = 16;
+
+// The access is A.
+pub const SINGLE: u8 = 17;
+
+pub const NEVER: u8 = 18;
+
+fn free_if(good: bool) -> u8
+    ensures { λ r. ⌜ r ≡ choose good free never ⌝ }
+{
+    if good {
+        return FREE;
+    }
+    NEVER
+}
+
+fn read_rule(kind: Kind, code: usize) -> u8
+    ensures { λ r. ⌜ r ≡ ruleOf kind code false ⌝ }
+{
+    match kind {
+        Kind::Guarded(g) => g,
+        Kind::Own(g) => free_if((g as usize) == code),
+        Kind::Fixed => FREE,
+        Kind::Open => SINGLE,
+    }
+}
+
+fn write_rule(kind: Kind, code: usize) -> u8
+    ensures { λ r. ⌜ r ≡ ruleOf kind code true ⌝ }
+{
+    match kind {
+        Kind::Guarded(g) => g,
+        Kind::Own(g) => free_if((g as usize) == code),
+        Kind::Fixed => NEVER,
+        Kind::Open => SINGLE,
+    }
+}
+
+// The rules of all variables for one code.
+pub fn fill_rules(
+    s: &[u8],
+    l: Layout,
+    code: usize,
+    reads: &mut [u8; VARIABLE_LIMIT],
+    writes: &mut [u8; VARIABLE_LIMIT],
+)
+    requires { ⌜ SoundFile (now s) l × (length (now reads) ≡ variableLimit) × (length (now writes) ≡ variableLimit) ⌝ }
+    ensures { λ r. ⌜ RuleTables (now (s .entry)) l code (now (reads .exit)) (now (writes .exit)) ⌝ }
+{
+    let mut v: usize = 0;
+    while v < l.variables {
+        let kind = kind_at(s, RECORDS_START + VARIABLE_SIZE * v, l.locks, l.threads);
+        reads[v] = read_rule(kind, code);
+        writes[v] = write_rule(kind, code);
+        v += 1;
+    }
+}

@@ -1,0 +1,7 @@
+// What judging a code or a program comes to (document 01, "Who can bring a number about": the writer's part).
+use program::refusal::Refusal;
+
+pub enum Verdict {
+    Allowed,
+    Refused(Refusal),
+}

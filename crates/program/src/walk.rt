@@ -1,0 +1,113 @@
+// One pass over a thread's code section: the fields of its instructions and its nesting together (document 01, "Who can bring a number
+// about": 7; 8 "after all 7s of that thread").
+use crate::instruction::instruction_of;
+use crate::instruction::is_nesting;
+use crate::instruction::is_valid;
+use crate::instruction::row_of;
+use crate::limits::ENTRY_LIMIT;
+use crate::limits::INSTRUCTION_SIZE;
+use crate::nesting::Change;
+use crate::nesting::Entry;
+use crate::nesting::NOWHERE;
+use crate::nesting::Turn;
+use crate::nesting::innermost;
+use crate::nesting::named;
+use crate::nesting::named_place;
+use crate::nesting::turn_at;
+ghost use mathlib.Core.Path.{_≡_};
+ghost use mathlib.Core.List.{[]};
+ghost use Prim.Native.Nat.{ℕ, _+_, _*_, _≤_};
+ghost use lib.ListN.{length};
+ghost use Rattle.program.specs.Layout.{instructionsAt, offsetFrom};
+ghost use Rattle.program.specs.Limits.{instructionLimit, instructionSize};
+ghost use Rattle.program.specs.Nesting.{firstBroken};
+ghost use Rattle.program.specs.Internal.Rows.{limitsOf, rowTable};
+ghost use Rattle.program.specs.Internal.Walk.{firstInvalid, walked};
+ghost use Rattle.program.specs.declared.found.Found.the-variants.{At};
+
+// Where a walk ends.
+pub enum Walked {
+    Nested,
+    // An instruction that is not valid, at an offset.
+    Invalid(usize),
+    // All are valid, and nesting is broken at an offset.
+    Broken(usize),
+}
+
+// Where nesting is broken at an offset: the n instructions after it come first if one of them is not valid.
+fn broken(rows: &[u8], limits: &[u16], s: &[u8], offset: usize, first: usize, n: usize) -> Walked
+    requires { ⌜ (now rows ≡ rowTable) × (length (now limits) ≡ 96) × (first + instructionSize * n ≤ length (now s)) ⌝ }
+    ensures { λ r. ⌜ ((locks variables : ℕ) → now (limits .entry) ≡ limitsOf locks variables
+        → r ≡ walked (firstInvalid locks variables (now (s .entry)) n first) (At offset)) ⌝ }
+{
+    let mut at = first;
+    let mut left = n;
+    while 0 < left {
+        let row = row_of(rows, s[at]);
+        if !is_valid(limits, row, s[at + 1], s[at + 2], s[at + 3]) {
+            return Walked::Invalid(at);
+        }
+        at += INSTRUCTION_SIZE;
+        left -= 1;
+    }
+    Walked::Broken(offset)
+}
+
+// The n instructions from an offset on. An opener or a closer changes the open entries, which are elements 1 to `depth` of an array;
+// any other instruction has only to stand elsewhere than at the place that the innermost of them names.
+pub fn walk(rows: &[u8], limits: &[u16], s: &[u8], start: usize, n: usize) -> Walked
+    requires { ⌜ (now rows ≡ rowTable) × (length (now limits) ≡ 96) × (start + instructionSize * n ≤ length (now s)) × (n ≤ instructionLimit) ⌝ }
+    ensures { λ r. ⌜ ((locks variables : ℕ) → now (limits .entry) ≡ limitsOf locks variables
+        → r ≡ walked (firstInvalid locks variables (now (s .entry)) n start)
+        (offsetFrom start (firstBroken 0 (instructionsAt locks variables (now (s .entry)) n start) []))) ⌝ }
+{
+    let mut entries = [Entry::Block(0); ENTRY_LIMIT + 1];
+    let mut depth = 0;
+    let mut place = NOWHERE;
+    let mut p = 0;
+    while p < n {
+        let at = start + INSTRUCTION_SIZE * p;
+        let row = row_of(rows, s[at]);
+        let a = s[at + 1];
+        let b = s[at + 2];
+        let c = s[at + 3];
+        if !is_valid(limits, row, a, b, c) {
+            return Walked::Invalid(at);
+        }
+        if is_nesting(row) {
+            let i = instruction_of(row, a, b, c);
+            let e = entries[depth];
+            let turn = turn_at(p, i, innermost(e, depth), depth);
+            let Turn::Goes(change) = turn else {
+                return broken(rows, limits, s, at, at + INSTRUCTION_SIZE, n - p - 1);
+            };
+            p += 1;
+            match change {
+                Change::Keep => {}
+                Change::Push(e) => {
+                    depth += 1;
+                    entries[depth] = e;
+                    place = named(e);
+                }
+                Change::Replace(e) => {
+                    entries[depth] = e;
+                    place = named(e);
+                }
+                Change::Pop => {
+                    depth -= 1;
+                    let e = entries[depth];
+                    place = named_place(innermost(e, depth));
+                }
+            }
+        } else {
+            if p == place {
+                return broken(rows, limits, s, at, at + INSTRUCTION_SIZE, n - p - 1);
+            }
+            p += 1;
+        }
+    }
+    if depth == 0 {
+        return Walked::Nested;
+    }
+    Walked::Broken(start + INSTRUCTION_SIZE * n)
+}

@@ -1,0 +1,444 @@
+//! Where reading and judging in one pass, tests by masks, and vector instructions could go wrong:
+//! fields at their limits, offences of different kinds in one file, offences at the first and the
+//! last place, and codes of no and of 1,024 instructions.
+
+mod common;
+
+use common::{file, judge_in, line_in, refused, run_in};
+use hogunlas_reference::instruction::Instruction::{self, *};
+use hogunlas_reference::{bench, Counts, Refusal};
+
+const OPEN: [u8; 6] = [3, 0, 0, 0, 0, 0];
+const GUARDED_BY_K0: [u8; 6] = [0, 0, 0, 0, 0, 0];
+
+const TAKE: Instruction = Take { lock: 0 };
+const GIVE: Instruction = Give { lock: 0 };
+const READ: Instruction = Read { to: 0, variable: 0 };
+const PLAIN: Instruction = Set { to: 0, number: 0 };
+
+/// What a refused file is refused with.
+fn refusal(file: &[u8]) -> (u32, u64) {
+    let Refusal { number, detail } = judge_in(8_200, file).expect_err("a refusal");
+    (number, detail)
+}
+
+/// A code section of words that may be no instructions.
+fn section(words: &[[u8; 4]]) -> Vec<u8> {
+    let bytes = words.concat();
+    let length = (bytes.len() as u16).to_be_bytes();
+    [&length[..], &bytes].concat()
+}
+
+fn words(code: &[Instruction]) -> Vec<[u8; 4]> {
+    code.iter()
+        .map(|instruction| instruction.encode())
+        .collect()
+}
+
+const WRONG: [u8; 4] = [0xFF, 0, 0, 0];
+
+// Fields.
+
+const ANY: usize = 256;
+const REGISTER: usize = 8;
+const UNUSED: usize = 1;
+
+/// Document 01's table of op codes: the values below these are good in the fields a, b, c.
+fn good_values(locks: usize, variables: usize) -> [(u8, [usize; 3]); 15] {
+    [
+        (0x01, [REGISTER, ANY, ANY]),
+        (0x02, [REGISTER, REGISTER, UNUSED]),
+        (0x03, [REGISTER, REGISTER, REGISTER]),
+        (0x04, [REGISTER, REGISTER, REGISTER]),
+        (0x05, [REGISTER, REGISTER, REGISTER]),
+        (0x10, [REGISTER, variables, UNUSED]),
+        (0x11, [REGISTER, variables, UNUSED]),
+        (0x20, [locks, UNUSED, UNUSED]),
+        (0x21, [locks, UNUSED, UNUSED]),
+        (0x30, [REGISTER, ANY, ANY]),
+        (0x31, [UNUSED, ANY, ANY]),
+        (0x32, [REGISTER, ANY, ANY]),
+        (0x33, [UNUSED, ANY, ANY]),
+        (0x34, [UNUSED, ANY, ANY]),
+        (0x35, [UNUSED, UNUSED, UNUSED]),
+    ]
+}
+
+/// Whether a code of one word is refused for its instruction.
+fn is_wrong(locks: usize, variables: usize, word: [u8; 4]) -> bool {
+    let head = file(locks as u8, &vec![OPEN; variables], &[&[]]);
+    let without_code = &head[..head.len() - 2];
+    let file = [without_code, &section(&[word])].concat();
+    let at = (file.len() - 4) as u64;
+    judge_in(2, &file) == refused(7, at)
+}
+
+#[test]
+fn every_value_of_every_field_is_good_or_a_7() {
+    for (locks, variables) in [(16, 64), (3, 5), (0, 0)] {
+        for (op, good) in good_values(locks, variables) {
+            for field in 0..3 {
+                for value in 0..=255 {
+                    let mut word = [op, 0, 0, 0];
+                    word[1 + field] = value;
+                    // A count of 0 leaves the 0 in another field no good name.
+                    let wrong = (0..3).any(|f| usize::from(word[1 + f]) >= good[f]);
+                    let found = is_wrong(locks, variables, word);
+                    assert_eq!(
+                        found, wrong,
+                        "{word:02X?}, {locks} locks, {variables} variables"
+                    );
+                }
+            }
+        }
+    }
+}
+
+#[test]
+fn every_other_op_is_a_7() {
+    let known = good_values(16, 64).map(|(op, _)| op);
+    for op in (0..=255).filter(|op| !known.contains(op)) {
+        for fields in [[0, 0, 0], [1, 1, 1], [255, 255, 255]] {
+            let [a, b, c] = fields;
+            assert!(is_wrong(16, 64, [op, a, b, c]), "{op:02X}");
+        }
+    }
+}
+
+// Wrong instructions and nesting.
+
+fn if_to(distance: u16) -> Instruction {
+    If { test: 0, distance }
+}
+
+fn while_to(distance: u16) -> Instruction {
+    While { test: 0, distance }
+}
+
+/// Codes whose nesting is broken at their last place.
+fn broken_codes() -> Vec<Vec<Instruction>> {
+    let atomic_to = |distance| Atomic { distance };
+    let mut codes = vec![
+        vec![End],
+        vec![PLAIN, Else { distance: 1 }],
+        vec![Again { distance: 1 }],
+        vec![atomic_to(0)],
+        vec![atomic_to(2), End],
+        vec![atomic_to(1), PLAIN],
+        vec![atomic_to(1), while_to(3)],
+        vec![if_to(1), End],
+        vec![if_to(1), Else { distance: 0 }],
+        vec![while_to(2), PLAIN, Again { distance: 1 }],
+        vec![while_to(1), End],
+    ];
+    for opener in [if_to(900), while_to(900), atomic_to(900)] {
+        codes.push(vec![opener; 17]);
+    }
+    codes
+}
+
+/// A file of one thread with these words.
+fn one_thread(words: &[[u8; 4]]) -> Vec<u8> {
+    [&[1, 1, 1, 0, 0][..], &section(words)].concat()
+}
+
+fn offset(place: usize) -> u64 {
+    7 + 4 * place as u64
+}
+
+#[test]
+fn a_wrong_instruction_after_a_broken_nesting_comes_first() {
+    let rest = [PLAIN, TAKE, GIVE, if_to(1), Else { distance: 1 }, End, End];
+    for code in broken_codes() {
+        let broken_at = code.len() - 1;
+        let mut words = words(&[code, rest.repeat(9)].concat());
+        assert_eq!(refusal(&one_thread(&words)), (8, offset(broken_at)));
+        let last = words.len();
+        words.push(WRONG);
+        assert_eq!(refusal(&one_thread(&words)), (7, offset(last)));
+        words.push(WRONG);
+        assert_eq!(refusal(&one_thread(&words)), (7, offset(last)), "the first");
+        words[broken_at + 1] = WRONG;
+        assert_eq!(refusal(&one_thread(&words)), (7, offset(broken_at + 1)));
+        words[0] = WRONG;
+        assert_eq!(refusal(&one_thread(&words)), (7, offset(0)));
+    }
+}
+
+#[test]
+fn a_wrong_instruction_comes_before_an_entry_left_open() {
+    let mut words = words(&[Atomic { distance: 1 }]);
+    assert_eq!(refusal(&one_thread(&words)), (8, offset(1)), "at the end");
+    words.push(WRONG);
+    assert_eq!(refusal(&one_thread(&words)), (7, offset(1)));
+}
+
+/// A named place that no code can have is an entry left open, also where 16 bits would wrap.
+#[test]
+fn an_entry_may_name_a_place_past_every_code() {
+    for opener in [0x30, 0x32, 0x34] {
+        let far = [opener, 0, 0xFF, 0xFF];
+        let full: Vec<[u8; 4]> = [&[far][..], &[PLAIN.encode(); 1_023]].concat();
+        assert_eq!(refusal(&one_thread(&full)), (8, offset(1_024)));
+    }
+}
+
+#[test]
+fn sixteen_entries_pass_and_the_seventeenth_of_each_kind_is_refused() {
+    let around = |kind: usize, body: Vec<Instruction>| {
+        let distance = body.len() as u16 + 1;
+        let (opener, closers) = match kind % 3 {
+            0 => (if_to(distance), vec![Else { distance: 1 }, End]),
+            1 => (while_to(distance), vec![Again { distance }]),
+            _ => (Atomic { distance }, vec![End]),
+        };
+        [vec![opener], body, closers].concat()
+    };
+    for kind in 0..3 {
+        let sixteen = (0..16).fold(Vec::new(), |body, level| around(kind + level, body));
+        let twice = [&sixteen[..], &sixteen].concat();
+        assert_eq!(
+            judge_in(200, &file(0, &[], &[&twice])).map(|report| report.len()),
+            Ok(twice.len() + 1),
+            "the entries are closed in between"
+        );
+        let seventeen = (0..17).fold(Vec::new(), |body, level| around(kind + level, body));
+        assert_eq!(refusal(&file(0, &[], &[&seventeen])), (8, offset(16)));
+    }
+}
+
+// The sender's offences and the writer's.
+
+/// Codes with an offence of the writer, its number and its place.
+fn offending_codes() -> Vec<(Vec<Instruction>, u32, usize)> {
+    let lock = |lock| Take { lock };
+    vec![
+        (vec![READ], 9, 0),
+        (vec![PLAIN, TAKE, GIVE, READ], 9, 3),
+        (vec![TAKE, TAKE, GIVE], 10, 1),
+        (vec![GIVE], 11, 0),
+        (vec![TAKE, GIVE, GIVE], 11, 2),
+        (vec![if_to(2), TAKE, Else { distance: 1 }, End, GIVE], 12, 3),
+        (vec![while_to(2), TAKE, Again { distance: 2 }, GIVE], 12, 2),
+        (vec![TAKE], 12, 1),
+        (vec![lock(1), lock(0), GIVE], 12, 3),
+        (
+            vec![Atomic { distance: 5 }, TAKE, GIVE, TAKE, GIVE, End],
+            13,
+            5,
+        ),
+    ]
+}
+
+/// A file of two locks and a variable guarded by k0, its threads' codes given as sections.
+fn file_of(sections: &[Vec<u8>]) -> Vec<u8> {
+    let head = [1, 2, sections.len() as u8, 0, 6];
+    [&head[..], &GUARDED_BY_K0, &sections.concat()].concat()
+}
+
+#[test]
+fn the_senders_offences_in_a_later_thread_come_before_the_writers() {
+    for (code, number, place) in offending_codes() {
+        let code = section(&words(&code));
+        let start = 5 + 6 + 2;
+        let good = section(&[PLAIN.encode()]);
+        let found = (number, start + 4 * place as u64);
+        assert_eq!(refusal(&file_of(&[code.clone(), good.clone()])), found);
+        let next = (5 + 6 + code.len()) as u64;
+        for (later, expected) in [
+            (vec![], (1, next)),
+            (vec![0], (1, next + 1)),
+            (vec![0, 4, 1], (1, next + 3)),
+            (vec![0, 3, 1], (4, next)),
+            (section(&[WRONG]), (7, next + 2)),
+            (section(&[End.encode()]), (8, next + 2)),
+            ([good.clone(), vec![0]].concat(), (5, next + 6)),
+        ] {
+            let file = file_of(&[code.clone(), later]);
+            assert_eq!(refusal(&file), expected, "after a {number}");
+        }
+    }
+}
+
+#[test]
+fn the_senders_offences_in_the_same_thread_come_before_the_writers() {
+    for (code, number, _) in offending_codes() {
+        let mut words = words(&code);
+        let end = 13 + 4 * words.len() as u64;
+        words.push(End.encode());
+        assert_eq!(refusal(&file_of(&[section(&words)])), (8, end), "{number}");
+        words.push(WRONG);
+        assert_eq!(
+            refusal(&file_of(&[section(&words)])),
+            (7, end + 4),
+            "{number}"
+        );
+    }
+}
+
+/// Judging goes on past an offence, but what it finds there must not count.
+#[test]
+fn the_writers_first_offence_decides() {
+    for (first, number, place) in offending_codes() {
+        for (second, _, _) in offending_codes() {
+            let wanted = (number, 13 + 4 * place as u64);
+            let threads = file_of(&[section(&words(&first)), section(&words(&second))]);
+            assert_eq!(refusal(&threads), wanted, "threads in order");
+            if place < first.len() {
+                let joined = words(&[&first[..], &second].concat());
+                assert_eq!(
+                    refusal(&file_of(&[section(&joined)])),
+                    wanted,
+                    "places in order"
+                );
+            }
+        }
+    }
+}
+
+// The first and the last place.
+
+#[test]
+fn codes_of_no_instructions() {
+    let file = file(0, &[], &[&[][..]; 8]);
+    assert_eq!(judge_in(8, &file), Ok(vec![1; 8]));
+    assert_eq!(judge_in(7, &file), refused(16, 8));
+    let list: Vec<u8> = (0..100).map(|index| index % 8).collect();
+    let counts = Counts {
+        moved: 0,
+        waiting: 0,
+        idle: 100,
+    };
+    let state = 8 * 34;
+    assert_eq!(
+        run_in(state, &file, &list, state),
+        Ok((counts, vec![0; state]))
+    );
+    assert_eq!(
+        line_in(48, &file, 11),
+        Ok(b"0000 thread 7 code 0\n".to_vec())
+    );
+    assert_eq!(line_in(48, &file, 19), Ok(b"thread 7 B\n".to_vec()));
+    assert_eq!(line_in(48, &file, 20), refused(17, 20));
+    assert_eq!(
+        bench(&file).iter().filter(|&&byte| byte == b'\n').count(),
+        20
+    );
+}
+
+/// 1,024 instructions, the first of which opens what the last one closes.
+fn full_block(body: Instruction) -> Vec<Instruction> {
+    let mut code = vec![body; 1_024];
+    code[0] = Atomic { distance: 1_023 };
+    code[1_023] = End;
+    code
+}
+
+#[test]
+fn constructs_from_the_first_to_the_last_place() {
+    let threads = vec![full_block(PLAIN); 8];
+    let codes: Vec<&[Instruction]> = threads.iter().map(|code| &code[..]).collect();
+    let mut part = vec![1; 1_025];
+    part[1_023] = 0;
+    let largest = file(16, &[OPEN; 64], &codes);
+    assert_eq!(largest.len(), 33_173);
+    assert_eq!(judge_in(8_200, &largest), Ok(part.repeat(8)));
+    assert_eq!(judge_in(8_199, &largest), refused(16, 8_200));
+}
+
+#[test]
+fn offences_at_the_last_place_of_the_largest_file() {
+    let with_last = |code: Vec<Instruction>| {
+        let mut threads = vec![full_block(PLAIN); 7];
+        threads.push(code);
+        let codes: Vec<&[Instruction]> = threads.iter().map(|code| &code[..]).collect();
+        refusal(&file(16, &[OPEN; 64], &codes))
+    };
+    let mut plain = vec![PLAIN; 1_024];
+    assert_eq!(with_last(full_block(READ)), (13, 33_169));
+    plain[1_023] = TAKE;
+    assert_eq!(with_last(plain.clone()), (12, 33_173), "the section's end");
+    plain[1_023] = GIVE;
+    assert_eq!(with_last(plain.clone()), (11, 33_169));
+    plain[1_023] = Atomic { distance: 1 };
+    assert_eq!(with_last(plain.clone()), (8, 33_173));
+    plain[1_023] = Read { to: 8, variable: 0 };
+    assert_eq!(with_last(plain), (7, 33_169));
+}
+
+#[test]
+fn the_last_place_is_stepped_on_and_past() {
+    let code = full_block(PLAIN);
+    let file = file(0, &[], &[&code]);
+    let (counts, state) = run_in(34, &file, &[0; 1_030], 34).unwrap();
+    assert_eq!((counts.moved, counts.waiting, counts.idle), (1_024, 0, 6));
+    assert_eq!(state[..2], [4, 0]);
+}
+
+// Lists.
+
+/// The greatest number of a list is found in pieces of any length, so every length and index up to
+/// some pieces is tried.
+#[test]
+fn a_bad_thread_number_is_found_at_every_index() {
+    for threads in [1, 3, 8] {
+        let codes: [&[Instruction]; 8] = [&[PLAIN]; 8];
+        let file = file(0, &[], &codes[..threads]);
+        let needed = 34 * threads;
+        for length in 1..=140 {
+            let good = vec![threads as u8 - 1; length];
+            assert!(run_in(needed, &file, &good, needed).is_ok());
+            for index in 0..length {
+                for bad in [threads as u8, 128, 255] {
+                    let mut list = good.clone();
+                    list[index] = bad;
+                    assert_eq!(run_in(0, &file, &list, 0), refused(15, index as u64));
+                    list[length - 1] = 255;
+                    assert_eq!(run_in(0, &file, &list, 0), refused(15, index as u64));
+                }
+            }
+        }
+    }
+}
+
+#[test]
+fn a_bad_thread_number_is_found_at_both_ends_of_the_longest_list() {
+    let file = file(0, &[], &[&[PLAIN], &[]]);
+    let mut list = vec![1; 65_536];
+    list[65_535] = 2;
+    assert_eq!(run_in(68, &file, &list, 0), refused(15, 65_535));
+    list[0] = 2;
+    assert_eq!(run_in(68, &file, &list, 0), refused(15, 0));
+    list.push(0);
+    assert_eq!(run_in(68, &file, &list, 0), refused(14, 65_536));
+    assert!(
+        run_in(68, &file, &[], 68).is_ok(),
+        "the empty list names no thread"
+    );
+}
+
+// Steps.
+
+/// The places of a thread that steps alone.
+fn places(code: &[Instruction], steps: usize) -> Vec<u16> {
+    let file = file(1, &[OPEN], &[code]);
+    let place = |count: usize| {
+        let (_, state) = run_in(39, &file, &vec![0; count], 39).unwrap();
+        u16::from_be_bytes([state[5], state[6]])
+    };
+    (0..=steps).map(place).collect()
+}
+
+#[test]
+fn jumps_land_where_they_must() {
+    let set = |number| Set { to: 0, number };
+    let choice = [if_to(2), PLAIN, Else { distance: 2 }, PLAIN, End];
+    let with = |number, code: &[Instruction]| [&[set(number)], code].concat();
+    assert_eq!(places(&with(1, &choice), 6), [0, 1, 2, 3, 5, 6, 6]);
+    assert_eq!(places(&with(0, &choice), 6), [0, 1, 4, 5, 6, 6, 6]);
+    let repeat = [while_to(2), PLAIN, Again { distance: 2 }];
+    assert_eq!(places(&with(1, &repeat), 5), [0, 1, 2, 3, 1, 4]);
+    assert_eq!(places(&with(0, &repeat), 3), [0, 1, 4, 4]);
+    let block = [Atomic { distance: 1 }, End];
+    assert_eq!(places(&block, 3), [0, 1, 2, 2]);
+}
