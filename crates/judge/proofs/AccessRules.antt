@@ -13,7 +13,7 @@ use lib.ListN.{length, getD, set, length-set}
 use lib.Seq.{getD-set-same, getD-set-other}
 use borrow.Author.Tests.{lt-ltb, ltb-true}
 use Rattle.atomicity.specs.declared.Atomicity.the-variants as atomicity
-use Rattle.program.specs.Access.{reads, writes}
+use Rattle.program.specs.View.{reads, writes}
 use Rattle.program.specs.Choice.{choose}
 use Rattle.program.specs.Layout.{programOf}
 use Rattle.program.specs.Limits.{lockLimit, recordOffset, variableLimit}

@@ -13,16 +13,13 @@ use Rattle.atomicity.specs.Atomicity.{reportByte, composition}
 use Rattle.atomicity.specs.declared.Atomicity.{Atomicity}
 use Rattle.atomicity.specs.declared.Atomicity.the-variants as atomicity
 use Rattle.atomicity.proofs.Laws.{then-both}
-use Rattle.program.specs.Access.{Access, none, reads, writes, takes, gives, accessOf}
+use Rattle.program.specs.View.{Access, none, reads, writes, takes, gives, accessOf, formOf, Form, Plain}
 use Rattle.program.specs.Answer.{fine, _>>=_, require}
 use Rattle.program.specs.Choice.{choose}
-use Rattle.program.specs.Instruction.{formOf}
 use Rattle.program.specs.Layout.{Program}
 use Rattle.program.specs.Limits.{entryLimit}
 use Rattle.program.specs.Internal.WellFormed as Passing
-use Rattle.program.specs.declared.instruction.Form.{Form}
-use Rattle.program.specs.declared.instruction.Form.the-variants.{Plain}
-use Rattle.program.specs.declared.instruction.Form.the-variants as form
+use Rattle.program.specs.View as form
 use Rattle.program.specs.declared.instruction.Instruction.{Instruction}
 use Rattle.program.specs.declared.nesting.Entry.{Entry}
 use Rattle.program.specs.declared.nesting.Entry.the-variants as entry

@@ -16,11 +16,10 @@ use Rattle.atomicity.specs.Atomicity.{reportByte, composition, join, closure}
 use Rattle.atomicity.specs.declared.Atomicity.{Atomicity}
 use Rattle.atomicity.specs.declared.Atomicity.the-variants.{Both}
 use Rattle.atomicity.proofs.Laws.{then-assoc, both-then, then-both}
-use Rattle.program.specs.Access.{accessOf}
+use Rattle.program.specs.View.{accessOf, formOf}
 use Rattle.program.specs.Answer.{Answer, fine, _>>=_, require}
 use Rattle.program.specs.Choice.{choose}
 use Rattle.program.specs.Code.{Code, done, plain, choice, loop, block, size}
-use Rattle.program.specs.Instruction.{formOf}
 use Rattle.program.specs.Layout.{Program}
 use Rattle.program.specs.Internal.WellFormed.{flat, WellFormed}
 use Rattle.program.specs.declared.instruction.Instruction.{Instruction}

@@ -11,9 +11,8 @@ use Rattle.atomicity.specs.declared.Atomicity.{Atomicity}
 use Rattle.atomicity.specs.declared.Atomicity.the-variants.{Both, Top}
 use Rattle.program.specs.Answer.{fine}
 use Rattle.program.specs.Code.{Code, done, plain, choice, loop, block, structured}
-use Rattle.program.specs.Instruction.{formOf}
+use Rattle.program.specs.View.{formOf, Plain}
 use Rattle.program.specs.Layout.{Program, CodeSection}
-use Rattle.program.specs.declared.instruction.Form.the-variants.{Plain}
 use Rattle.program.specs.declared.instruction.Instruction.{Instruction}
 use Rattle.judge.specs.Discipline.{lockSetAfter, atomicityOf}
 use Rattle.judge.specs.LockSet.{empty}

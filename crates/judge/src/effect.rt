@@ -9,7 +9,7 @@ ghost use mathlib.Core.Path.{_≡_};
 ghost use mathlib.Core.List.{List};
 ghost use Prim.Native.Nat.{ℕ, _<_};
 ghost use lib.ListN.{length};
-ghost use Rattle.program.specs.Access.{accessOf};
+ghost use Rattle.program.specs.View.{accessOf};
 ghost use Rattle.program.specs.Choice.{choose};
 ghost use Rattle.program.specs.Layout.{programOf};
 ghost use Rattle.program.specs.Limits.{lockLimit, variableLimit};

@@ -13,7 +13,7 @@ use native.Mathlib.Numerals.{add-one}
 use native.Mathlib.Omega.{arith}
 use lib.ListN.{length, getD, set, drop, replicate, drop-of-length-le}
 use lib.Seq.{drop-cons}
-use Rattle.program.specs.Access.{Access, accessOf}
+use Rattle.program.specs.View.{Access, accessOf}
 use Rattle.program.specs.Instruction.{decodeAt, decodedInstruction}
 use Rattle.program.specs.Layout.{programOf}
 use Rattle.program.specs.Limits.{lockLimit, threadLimit, variableLimit}

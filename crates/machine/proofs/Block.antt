@@ -5,7 +5,7 @@ use Prim.Native.Nat.{ℕ}
 use mathlib.Core.Path.{_≡_, refl}
 use mathlib.Core.Bool.{true, false}
 use mathlib.Core.List.{[], _∷_, map}
-use Rattle.program.specs.Instruction.{formOf}
+use Rattle.program.specs.View.{formOf}
 use Rattle.program.specs.Layout.{Program, codeOf}
 use Rattle.program.specs.declared.instruction.Instruction.the-variants.{While, Again, Atomic, End}
 use Rattle.machine.specs.Block.{covers, coveredFrom, inside}

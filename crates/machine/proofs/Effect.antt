@@ -7,7 +7,7 @@ use mathlib.Core.Path.{_≡_, refl}
 use mathlib.Core.Bool.{Bool, true, false}
 use mathlib.Core.List.{List}
 use lib.Dec.{eqb}
-use Rattle.program.specs.Access.{Access, none, accessOf}
+use Rattle.program.specs.View.{Access, none, accessOf}
 use Rattle.program.specs.Choice.{choose}
 use Rattle.program.specs.declared.instruction.Instruction.{Instruction}
 use Rattle.machine.specs.Step.{reg, Result, keeps, resultOf, stored, branch, placeAfter, registersAfter, threadAfter}

@@ -9,15 +9,13 @@ use native.Mathlib.Omega.{arith}
 use lib.ListN.{length, getD}
 use lib.Dec.{eqb}
 use Rattle.program.specs.Choice.{choose}
-use Rattle.program.specs.Instruction.{formOf}
+use Rattle.program.specs.View.{formOf, Form, Plain, If, Else, While, Again, Atomic, End}
 use Rattle.program.specs.Nesting.{firstBroken}
 use Rattle.program.specs.Internal.Sound.{FieldsGood}
 use Rattle.program.specs.Internal.WellFormed.{Jump}
 use Rattle.program.specs.declared.found.Found.the-variants.{Nowhere}
 use Rattle.program.specs.declared.instruction.Instruction.{Instruction}
 use Rattle.program.specs.declared.instruction.Instruction.the-variants as instruction
-use Rattle.program.specs.declared.instruction.Form.{Form}
-use Rattle.program.specs.declared.instruction.Form.the-variants.{Plain, If, Else, While, Again, Atomic, End}
 use Rattle.program.proofs.Jumps.{jump}
 use Rattle.program.specs.Limits.{lockLimit, variableLimit}
 use Rattle.machine.specs.Step.{placeAfter, placeBehind, branch, reg}

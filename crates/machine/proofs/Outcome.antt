@@ -12,7 +12,7 @@ use lib.ListN.{length}
 use borrow.Author.Tests.{eq-eqb, ne-eqb}
 use Rattle.program.specs.Layout.{Program, codeOf}
 use Rattle.machine.specs.State.{threadOf}
-use Rattle.program.specs.Access.{accessOf}
+use Rattle.program.specs.View.{accessOf}
 use Rattle.machine.specs.Step.{waits, instructionOf, moveBy, outcome, step}
 use Rattle.machine.specs.Run.{Run, counted, runFrom, run}
 use Rattle.machine.specs.declared.run.Counts.{Counts}

@@ -19,7 +19,7 @@ use Rattle.program.specs.declared.layout.Layout.{Layout}
 use Rattle.program.proofs.Contents.{length-variables}
 use Rattle.program.proofs.Lists.{getD-replicate-same, getD-set-holds, length-flatMap}
 use Rattle.machine.specs.State.{State, start, fresh, threadOf, threadBytes, stateBytes}
-use Rattle.program.specs.Access.{accessOf}
+use Rattle.program.specs.View.{accessOf}
 use Rattle.program.specs.Limits.{recordsStart, registerCount, threadSize, sizeOfState}
 use Rattle.machine.specs.Step.{valueRead, threadAfter, instructionOf, moveBy, outcome, after, step}
 use Rattle.machine.specs.Run.{Run, run, runFrom}

@@ -5,10 +5,8 @@ use mathlib.Core.Logic.{_≢_}
 use mathlib.Core.Bool.{Bool, false, _&&_, _||_}
 use mathlib.Core.List.{List, [], _∷_}
 use lib.Dec.{ltb, leb}
-use Rattle.program.specs.Instruction.{formOf}
+use Rattle.program.specs.View.{formOf, Form, Plain, If, Else, While, Again, Atomic, End}
 use Rattle.program.specs.Layout.{Program, codeOf}
-use Rattle.program.specs.declared.instruction.Form.{Form}
-use Rattle.program.specs.declared.instruction.Form.the-variants.{Plain, If, Else, While, Again, Atomic, End}
 use Rattle.program.specs.declared.instruction.Instruction.{Instruction}
 use Rattle.machine.specs.State.{State, threadOf, start}
 use Rattle.machine.specs.Step.{outcome, step}

@@ -4,13 +4,10 @@ use mathlib.Core.Bool.{Bool, false, not}
 use mathlib.Core.List.{List}
 use lib.ListN.{length, getD, set}
 use lib.Dec.{ltb, eqb}
-use Rattle.program.specs.Access.{Access, none, reads, writes, takes, gives, accessOf}
+use Rattle.program.specs.View.{Access, none, reads, writes, takes, gives, accessOf, formOf, Form, Plain}
 use Rattle.program.specs.Choice.{choose}
 use Rattle.program.specs.Layout.{Program, codeOf}
-use Rattle.program.specs.Instruction.{formOf}
-use Rattle.program.specs.declared.instruction.Form.{Form}
-use Rattle.program.specs.declared.instruction.Form.the-variants.{Plain}
-use Rattle.program.specs.declared.instruction.Form.the-variants as form
+use Rattle.program.specs.View as form
 use Rattle.program.specs.declared.instruction.Instruction.{Instruction}
 use Rattle.program.specs.declared.instruction.Instruction.the-variants.{Set, Copy, Add, Sub, Less, Read, Write, Take, Give, If, Else, While, Again, Atomic, End}
 use Rattle.machine.specs.State.{State, threadOf}

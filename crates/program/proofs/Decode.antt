@@ -8,10 +8,11 @@
 --     all-right, one-register, two-registers, three-registers
 --                         registers whose fields are right
 --     row-plain           an instruction of a row without its bit is no opener or closer
+--     row-form            one of a row with its bit has the row's form
 --     instruction-access  locks and variables below their counts, at any offset, valid or not
 --     access-wider        what lies below two counts lies below larger ones
 --     rows-at             the table of rows, by op code
-use Prim.Native.Nat.{ℕ, zero, suc, _+_, _-_, _/_, _%_, _^_, _<_, _≤_}
+use Prim.Native.Nat.{ℕ, zero, suc, _+_, _-_, _*_, _/_, _%_, _^_, _<_, _≤_}
 use mathlib.Core.Path.{_≡_, refl, sym, ap, _∙_, subst}
 use mathlib.Core.Logic.{_≢_}
 use mathlib.Core.Bool.{Bool, true, false, _&&_, _||_, and-eq-true-iff}
@@ -22,16 +23,16 @@ use native.Mathlib.Omega.{arith}
 use lib.Dec.{ltb, leb, eqb}
 use lib.ListN.{length, getD, replicate, length-map, List·getD-append, List·getD-map}
 use lib.Seq.{getD-take, getD-append-add}
-use borrow.Author.Tests.{ltb-true, leb-true, lt-ltb, le-ltb, ne-eqb}
-use Rattle.program.specs.Access.{Access, none, reads, writes, takes, gives, accessOf}
+use borrow.Author.Tests.{ltb-true, leb-true, eqb-true, lt-ltb, le-ltb, ne-eqb}
+use Rattle.program.specs.View.{Access, none, reads, writes, takes, gives, accessOf, formOf, Form}
 use Rattle.program.specs.Choice.{choose}
 use Rattle.program.specs.Field.{byteAt}
-use Rattle.program.specs.Instruction.{Decoded, Valid, Invalid, FieldKind, register, variable, lock, zero as zeroField, part, isRight, isRightRow, TableRow, row, table, lookUp, decode, decodeAt, decodedInstruction, isValid, formOf}
+use Rattle.program.specs.Instruction.{Decoded, Valid, Invalid, FieldKind, register, variable, lock, zero as zeroField, part, isRight, isRightRow, TableRow, row, table, lookUp, decode, decodeAt, decodedInstruction, isValid}
 use Rattle.program.specs.Limits.{registerCount}
 use Rattle.program.specs.Internal.Rows.{position, rowOf, rowsFrom, rowTable, limitOf, kinds, column, limitsOf, AreLimits, fits, nestingRows}
+use Rattle.program.specs.Internal.Change.{rowForm}
 use Rattle.program.specs.Internal.Sound.{AccessBelow}
-use Rattle.program.specs.declared.instruction.Form.{Form}
-use Rattle.program.specs.declared.instruction.Form.the-variants as form
+use Rattle.program.specs.View as form
 use Rattle.program.specs.declared.instruction.Instruction.{Instruction}
 use Rattle.program.specs.declared.instruction.Instruction.the-variants.{End}
 use Rattle.program.proofs.Differ.{differ}
@@ -296,6 +297,33 @@ module _ (locks variables op a b c : ℕ) where
       (or-right (eqb (nestingRows / 2 ^ (1 + m) % 2) 1) (isPlain (formOf (getD (table a b c) m noRow .instruction)))
       (each-row (λ n r. eqb (nestingRows / 2 ^ n % 2) 1 || isPlain (formOf (r .instruction))) 1 m (table a b c) refl (omega (arith, row-below op)))
       (rw number unset)))
+
+  -- the forms of rows 10 to 15
+  by-row : (k : ℕ) → k < 6 → rowOf op ≡ suc (9 + k) → isValid (decode locks variables op a b c) ≡ true
+      → formOf (decodedInstruction (decode locks variables op a b c)) ≡ rowForm (suc (9 + k)) a (b * 256 + c)
+  unfolding formOf
+  by-row zero h e valid = rw (← row-said locks variables op a b c 9 e valid .0)
+  by-row (suc zero) h e valid = rw (← row-said locks variables op a b c 10 e valid .0)
+  by-row (suc (suc zero)) h e valid = rw (← row-said locks variables op a b c 11 e valid .0)
+  by-row (suc (suc (suc zero))) h e valid = rw (← row-said locks variables op a b c 12 e valid .0)
+  by-row (suc (suc (suc (suc zero)))) h e valid = rw (← row-said locks variables op a b c 13 e valid .0)
+  by-row (suc (suc (suc (suc (suc zero))))) h e valid = rw (← row-said locks variables op a b c 14 e valid .0)
+  by-row (suc (suc (suc (suc (suc (suc k)))))) h e valid = absurd (let z : ⊥ = omega arith in z)
+
+  -- a row with its bit is an opener's or a closer's
+  pub row-form : isValid (decode locks variables op a b c) ≡ true → eqb (nestingRows / 2 ^ rowOf op % 2) 1 ≡ true
+      → formOf (decodedInstruction (decode locks variables op a b c)) ≡ rowForm (rowOf op) a (b * 256 + c)
+  row-form valid bit =
+      let m = rowOf op - 1 in
+      let is-m : rowOf op ≡ suc m = omega (arith, row-some locks variables op a b c valid) in
+      let number : 1 + m ≡ rowOf op = omega (arith, is-m) in
+      let late : leb 10 (rowOf op) ≡ true = rw number at (or-right (eqb (nestingRows / 2 ^ (1 + m) % 2) 0) (leb 10 (1 + m))
+      (each-row (λ n r. eqb (nestingRows / 2 ^ n % 2) 0 || leb 10 n) 1 m (table a b c) refl (omega (arith, row-below op)))
+      (rw number (ne-eqb (nestingRows / 2 ^ rowOf op % 2) 0 (λ e. omega (arith, eqb-true (nestingRows / 2 ^ rowOf op % 2) 1 bit))))) in
+      let ten : 10 ≤ rowOf op = leb-true 10 (rowOf op) late in
+      let k = rowOf op - 10 in
+      let is-k : rowOf op ≡ suc (9 + k) = omega arith in
+      by-row k (omega (arith, row-below op)) is-k valid ∙ ap (λ (r : ℕ). rowForm r a (b * 256 + c)) (sym is-k)
 
 -- ---- accesses
 

@@ -1,9 +1,9 @@
 -- The definitions of reading open, for theorems by computation: `unfolding reading-definitions` unfolds each name below. Assumes nothing.
-use Rattle.program.specs.Access.{accessOf}
+use Rattle.program.specs.View.{accessOf, formOf}
 use Rattle.program.specs.Choice.{firstBad}
 use Rattle.program.specs.Code.{size, elseDistance, structure, structured}
 use Rattle.program.specs.Field.{present, byteField, pairField, section}
-use Rattle.program.specs.Instruction.{decode, decodeAt, formOf}
+use Rattle.program.specs.Instruction.{decode, decodeAt}
 use Rattle.program.specs.Layout.{instructionsAt, variablesAt, codesAt, codeOf, programOf, variableSection, codeSection, codeSections, fields, reading}
 use Rattle.program.specs.Nesting.{named, unnamed, opening, passing, atElse, atAgain, atEnd, nest, atCodeEnd, firstBroken}
 use Rattle.program.specs.Variable.{recorded, recordAt, variableAt}

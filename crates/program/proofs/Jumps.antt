@@ -13,7 +13,7 @@ use Rattle.program.specs.declared.instruction.Instruction.{Instruction}
 use Rattle.program.specs.declared.instruction.Instruction.the-variants as instruction
 use Rattle.program.specs.declared.nesting.Entry.{Entry}
 use Rattle.program.specs.declared.nesting.Entry.the-variants as entry
-use Rattle.program.specs.Instruction.{formOf}
+use Rattle.program.specs.View.{formOf}
 use Rattle.program.specs.Nesting.{named, firstBroken}
 use Rattle.program.specs.Internal.WellFormed.{Passes, at-code-end, at-else, at-again, at-choice-end, at-block-end, ComesTo, closes, at-plain, at-if, at-while, at-atomic, NamesBefore, LeadsBack, LeadBack, Jump, Jumps}
 use Rattle.program.proofs.StructureTurn.{comes-to}

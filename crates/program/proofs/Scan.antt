@@ -11,17 +11,16 @@ use mathlib.Core.List.{List, []}
 use lib.ListN.{length}
 use native.Mathlib.Numerals.{add-one}
 use native.Mathlib.Omega.{arith}
-use Rattle.program.specs.Instruction.{decodeAt, decodedInstruction, formOf}
+use Rattle.program.specs.Instruction.{decodeAt, decodedInstruction}
+use Rattle.program.specs.View.{Form, formOf}
 use Rattle.program.specs.Layout.{instructionsAt}
 use Rattle.program.specs.Limits.{entryLimit}
 use Rattle.program.specs.Nesting.{OpenAfter, broken, opened, nest, firstBroken, atCodeEnd}
 use Rattle.program.specs.declared.found.Found.{Found}
 use Rattle.program.specs.declared.found.Found.the-variants.{At}
-use Rattle.program.specs.Internal.Change.{entriesOf, entriesAfter, depthAfter, under, turned, Room, Fulfils}
-use Rattle.program.specs.declared.instruction.Instruction.{Instruction}
+use Rattle.program.specs.Internal.Change.{entriesOf, entriesAfter, depthAfter, turned, Room, Fulfils}
 use Rattle.program.specs.declared.nesting.Entry.{Entry}
 use Rattle.program.specs.declared.nesting.Entry.the-variants.{Then}
-use Rattle.program.specs.declared.nesting.Top.{Top}
 use Rattle.program.specs.declared.nesting.Change.{Change}
 use Rattle.program.specs.declared.nesting.Turn.{Turn}
 use Rattle.program.specs.declared.nesting.Turn.the-variants.{Broken, Goes}
@@ -65,21 +64,16 @@ module _ (locks variables : ℕ) (s : List ℕ) (start n : ℕ) where
       let o : start + 4 * 0 ≡ start = omega arith in
       rw (m, o)
 
--- one turn of the scan, the entries in an array: i is the instruction at place p, top the innermost entry, and t what is right whatever
--- lies below it
-module _ (p d : ℕ) (xs : List Entry) (t : Turn) (top : Top) (i : Instruction) (is-top : entriesOf d xs ≡ under top (entriesOf (d - 1) xs))
-    (right : (below : List Entry) → length (under top below) ≡ d → Fulfils t top below (nest p (formOf i) (under top below))) where
-  length-under : length (under top (entriesOf (d - 1) xs)) ≡ d
-  length-under = rw (← is-top) (length-stack (Then 0) d xs)
-
+-- one turn of the scan, the entries in an array: i is the instruction at place p, and t does what nesting wants of it
+module _ (p d : ℕ) (xs : List Entry) (t : Turn) (f : Form) (right : Fulfils t (entriesOf d xs) (nest p f (entriesOf d xs))) where
   -- a change has room
   pub turn-room : (ch : Change) → t ≡ Goes ch → Room ch d
-  turn-room ch e = rw (e, length-under) at (right (entriesOf (d - 1) xs) length-under .room)
+  turn-room ch e = rw (e, length-stack (Then 0) d xs) at (right .room)
 
   module _ (locks variables : ℕ) (s : List ℕ) (start n : ℕ)
-      (is-i : i ≡ decodedInstruction (decodeAt locks variables s (start + 4 * p))) (inside : p < n) where
-    turn-does : turned t top (entriesOf (d - 1) xs) ≡ nestAt locks variables s start n p (entriesOf d xs)
-    turn-does = rw (is-top, ← is-i) (right (entriesOf (d - 1) xs) length-under .does)
+      (is-f : f ≡ formOf (decodedInstruction (decodeAt locks variables s (start + 4 * p)))) (inside : p < n) where
+    turn-does : turned t (entriesOf d xs) ≡ nestAt locks variables s start n p (entriesOf d xs)
+    turn-does = rw (← is-f) (right .does)
 
     -- broken: the scan ends
     pub turn-broken : t ≡ Broken → restFrom locks variables s start n p (entriesOf d xs) ≡ At p
@@ -91,4 +85,4 @@ module _ (p d : ℕ) (xs : List Entry) (t : Turn) (top : Top) (i : Instruction) 
         ≡ restFrom locks variables s start n (p + 1) (entriesOf (depthAfter ch d) (entriesAfter ch d xs))
     turn-goes ch e l h =
         rest-passed locks variables s start n p (entriesOf d xs) (entriesOf (depthAfter ch d) (entriesAfter ch d xs)) inside
-        (sym (rw e at turn-does) ∙ ap opened (sym (entries-change ch d xs top l h (turn-room ch e) is-top)))
+        (sym (rw e at turn-does) ∙ ap opened (sym (entries-change ch d xs l h (turn-room ch e))))

@@ -12,10 +12,8 @@ use lib.Dec.{leb}
 use lib.ListN.{length}
 use denote.Enum.Declared.{tagOf, variants}
 use types.Run.{OneOf}
-use Rattle.program.specs.Access.{none, accessOf}
+use Rattle.program.specs.View.{none, accessOf, formOf, Plain}
 use Rattle.program.specs.Choice.{choose}
-use Rattle.program.specs.Instruction.{formOf}
-use Rattle.program.specs.declared.instruction.Form.the-variants.{Plain}
 use Rattle.program.specs.declared.instruction.Instruction.{Instruction}
 use Rattle.program.specs.declared.instruction.Instruction.the-variants.{Set, Copy, Add, Sub, Less, Read, Write, Take, Give, If, Else, While, Again, Atomic, End}
 use Rattle.program.proofs.Differ.{differ}

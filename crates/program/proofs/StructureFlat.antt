@@ -10,8 +10,7 @@ use lib.ListN.{length, getD, take, drop, length-append}
 use lib.Seq.{take-at, getD-at, drop-append-add, drop-drop}
 use Rattle.program.specs.declared.instruction.Instruction.{Instruction}
 use Rattle.program.specs.declared.instruction.Instruction.the-variants.{Else, Again, End}
-use Rattle.program.specs.declared.instruction.Form.the-variants.{Plain}
-use Rattle.program.specs.Instruction.{formOf}
+use Rattle.program.specs.View.{Plain, formOf}
 use Rattle.program.specs.Code.{Code, done, plain, choice, loop, block, size, elseDistance, structure, structured}
 use Rattle.program.specs.Internal.WellFormed.{flat, WellFormed}
 

@@ -13,10 +13,9 @@ use mathlib.Core.List.{List, [], _∷_, _++_, append-assoc, append-nil}
 use lib.ListN.{length, length-append}
 use Rattle.program.specs.declared.instruction.Instruction.{Instruction}
 use Rattle.program.specs.declared.instruction.Instruction.the-variants as instruction
-use Rattle.program.specs.declared.instruction.Form.the-variants.{Plain}
+use Rattle.program.specs.View.{Plain, formOf}
 use Rattle.program.specs.declared.nesting.Entry.{Entry}
 use Rattle.program.specs.declared.nesting.Entry.the-variants as entry
-use Rattle.program.specs.Instruction.{formOf}
 use Rattle.program.specs.Code.{Code, done, plain, choice, loop, block, size}
 use Rattle.program.specs.Limits.{entryLimit}
 use Rattle.program.specs.Internal.WellFormed.{flat, WellFormed, depth, Writes, Passes, Closes, at-code-end, at-else, at-again, at-choice-end, at-block-end, ComesTo, closes, at-plain, at-if, at-while, at-atomic, Parsed, Body, Parser}

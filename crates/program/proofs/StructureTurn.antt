@@ -14,14 +14,14 @@ use Rattle.program.specs.Choice.{choose}
 use Rattle.program.specs.declared.found.Found.{Found}
 use Rattle.program.specs.declared.found.Found.the-variants.{Nowhere, At}
 use Rattle.program.specs.declared.instruction.Instruction.{Instruction}
-use Rattle.program.specs.declared.instruction.Instruction.the-variants.{Set, Copy, Add, Sub, Less, Read, Write, Take, Give, If, Else, While, Again, Atomic, End}
-use Rattle.program.specs.declared.instruction.Form.the-variants.{Plain}
+use Rattle.program.specs.declared.instruction.Instruction.the-variants.{Read, Write, Take, Give, If, Else, While, Again, Atomic, End}
+use Rattle.program.specs.View.{Plain, formOf}
 use Rattle.program.specs.declared.nesting.Entry.{Entry}
 use Rattle.program.specs.declared.nesting.Entry.the-variants as entry
-use Rattle.program.specs.Instruction.{formOf}
 use Rattle.program.specs.Limits.{entryLimit}
 use Rattle.program.specs.Nesting.{broken, opened, unnamed, opening, passing, atElse, atAgain, atEnd, nest, atCodeEnd, goOn, firstBroken}
 use Rattle.program.specs.Internal.WellFormed.{Passes, Closes, at-code-end, at-else, at-again, at-choice-end, at-block-end, ComesTo, closes, at-plain, at-if, at-while, at-atomic}
+use Rattle.program.proofs.Seen.{Seen, seen, seen-local, seen-read, seen-write, seen-take, seen-give, seen-if, seen-else, seen-while, seen-again, seen-atomic, seen-end}
 use Rattle.program.proofs.Differ.{differ}
 
 -- ---- tests
@@ -94,18 +94,17 @@ pub comes-to : (p : ℕ) (is : List Instruction) (es : List Entry) → Passes p 
 unfolding firstBroken nest formOf atCodeEnd
 comes-to p [] [] h = closes at-code-end
 comes-to p [] (e ∷ es) h = at≢nowhere h
-comes-to p (Set a n ∷ is) es h = turn-plain p is es (Set a n) refl h
-comes-to p (Copy a b ∷ is) es h = turn-plain p is es (Copy a b) refl h
-comes-to p (Add a b c ∷ is) es h = turn-plain p is es (Add a b c) refl h
-comes-to p (Sub a b c ∷ is) es h = turn-plain p is es (Sub a b c) refl h
-comes-to p (Less a b c ∷ is) es h = turn-plain p is es (Less a b c) refl h
-comes-to p (Read a v ∷ is) es h = turn-plain p is es (Read a v) refl h
-comes-to p (Write a v ∷ is) es h = turn-plain p is es (Write a v) refl h
-comes-to p (Take k ∷ is) es h = turn-plain p is es (Take k) refl h
-comes-to p (Give k ∷ is) es h = turn-plain p is es (Give k) refl h
-comes-to p (If a n ∷ is) es h = let t = turn-open p is es n (entry.Then (p + n)) h in at-if (t .0) (t .1)
-comes-to p (Else n ∷ is) es h = closes (turn-else p is n es h)
-comes-to p (While a n ∷ is) es h = let t = turn-open p is es n (entry.Loop (p + n) n) h in at-while (t .0) (t .1)
-comes-to p (Again n ∷ is) es h = closes (turn-again p is n es h)
-comes-to p (Atomic n ∷ is) es h = let t = turn-open p is es n (entry.Block (p + n)) h in at-atomic (t .0) (t .1)
-comes-to p (End ∷ is) es h = closes (turn-end p is es h)
+comes-to p (i ∷ is) es h = cases i (seen i) h
+  where
+    cases : (i : Instruction) → Seen i → goOn p (nest p (formOf i) es) (firstBroken (suc p) is) ≡ Nowhere → ComesTo p (i ∷ is) es
+    cases i (seen-local f a) h = turn-plain p is es i f h
+    cases (Read a v) seen-read h = turn-plain p is es (Read a v) refl h
+    cases (Write a v) seen-write h = turn-plain p is es (Write a v) refl h
+    cases (Take k) seen-take h = turn-plain p is es (Take k) refl h
+    cases (Give k) seen-give h = turn-plain p is es (Give k) refl h
+    cases (If a n) seen-if h = let t = turn-open p is es n (entry.Then (p + n)) h in at-if (t .0) (t .1)
+    cases (Else n) seen-else h = closes (turn-else p is n es h)
+    cases (While a n) seen-while h = let t = turn-open p is es n (entry.Loop (p + n) n) h in at-while (t .0) (t .1)
+    cases (Again n) seen-again h = closes (turn-again p is n es h)
+    cases (Atomic n) seen-atomic h = let t = turn-open p is es n (entry.Block (p + n)) h in at-atomic (t .0) (t .1)
+    cases End seen-end h = closes (turn-end p is es h)

@@ -1,9 +1,9 @@
 -- The walk over a code section, one instruction at a time. Assumes nothing.
 --     walked-invalid, walked-broken, walked-nested
 --                             what an answer says of the two searches
---     names-pushed, names-replaced
---                             the place that the innermost entry names
+--     names-stored            the place that a stored entry names
 --     Walking                 what holds at the loop's head
+--     walking-innermost       ... and so the innermost entry
 --     walking-start           ... where the loop begins
 --     ends-invalid            an instruction that is not valid ends the walk
 --     ends-broken             nesting is broken: the rest of the search decides
@@ -19,28 +19,29 @@ use mathlib.Core.List.{List, []}
 use native.Mathlib.Omega.{arith}
 use borrow.Author.Tests.{ne-eqb}
 use lib.Dec.{eqb}
-use lib.ListN.{length, set, replicate, length-replicate}
+use lib.ListN.{length, getD, set, replicate, length-replicate}
+use lib.Seq.{getD-set-same, getD-set-other}
 use Rattle.program.specs.Choice.{choose}
-use Rattle.program.specs.Instruction.{isValid, decodeAt, decodedInstruction, formOf}
+use Rattle.program.specs.Instruction.{isValid, decodeAt, decodedInstruction}
+use Rattle.program.specs.View.{formOf, Plain}
 use Rattle.program.specs.Layout.{instructionsAt, offsetFrom}
 use Rattle.program.specs.Limits.{entryLimit}
-use Rattle.program.specs.Nesting.{broken, opened, named, unnamed, passing, nest, firstBroken, atCodeEnd}
-use Rattle.program.specs.Internal.Change.{entriesOf, entriesAfter, depthAfter, nowhere, Room}
+use Rattle.program.specs.Nesting.{broken, opened, named, passing, nest, firstBroken, atCodeEnd}
+use Rattle.program.specs.Internal.Change.{entriesOf, entriesAfter, depthAfter, nowhere, Innermost, Room}
 use Rattle.program.specs.Internal.Rows.{limitsOf}
 use Rattle.program.specs.Internal.Stack.{stackOf}
 use Rattle.program.specs.Internal.Walk.{firstInvalid, walked}
 use Rattle.program.specs.declared.found.Found.{Found}
 use Rattle.program.specs.declared.found.Found.the-variants.{At, Nowhere}
-use Rattle.program.specs.declared.instruction.Form.the-variants.{Plain}
 use Rattle.program.specs.declared.nesting.Change.{Change}
+use Rattle.program.specs.declared.nesting.Change.the-variants.{Push, Replace, Pop}
 use Rattle.program.specs.declared.nesting.Entry.{Entry}
-use Rattle.program.specs.declared.nesting.Entry.the-variants.{Then}
+use Rattle.program.specs.declared.nesting.Entry.the-variants.{Then, Block}
 use Rattle.program.specs.declared.walk.Walked.{Walked}
 use Rattle.program.specs.declared.walk.Walked.the-variants.{Nested, Invalid, Broken}
-use Rattle.program.proofs.Change.{depth-change, length-change}
+use Rattle.program.proofs.Change.{innermost-unnamed, innermost-of, depth-change, length-change}
 use Rattle.program.proofs.Differ.{differ}
 use Rattle.program.proofs.Scan.{restFrom, rest-start, rest-passed, rest-broken, rest-end}
-use Rattle.program.proofs.Stack.{stack-push}
 use Rattle.program.proofs.Search.{firstBad-good, firstBad-bad, firstBad-end}
 
 -- what an answer says of the two searches
@@ -60,14 +61,14 @@ walked-nested Nowhere (At k) e = differ cc
 walked-nested Nowhere Nowhere e = (refl, refl)
 
 -- an entry stored as the innermost names its own place
-pub names-pushed : (xs : List Entry) (d : ℕ) (e : Entry) → d + 1 < length xs → (q : ℕ) → unnamed q (entriesOf (d + 1) (set xs (d + 1) e)) ≡ not (eqb (named e) q)
-unfolding unnamed
-names-pushed xs d e h q = rw (stack-push (Then 0) d xs e h)
+pub names-stored : (xs : List Entry) (d : ℕ) (e : Entry) → d < length xs → named e ≡ named (getD (set xs d e) d (Then 0))
+names-stored xs d e h = ap named (sym (getD-set-same xs d e (Then 0) h))
 
-pub names-replaced : (xs : List Entry) (d : ℕ) (e : Entry) → 0 < d → d < length xs → (q : ℕ) → unnamed q (entriesOf d (set xs d e)) ≡ not (eqb (named e) q)
-names-replaced xs d e some h q =
-    let m : d ≡ d - 1 + 1 = omega arith in
-    ap (λ (i : ℕ). unnamed q (entriesOf i (set xs i e))) m ∙ names-pushed xs (d - 1) e (omega arith) q
+-- the element below all entries stays
+bottom-change : (ch : Change) (d : ℕ) (xs : List Entry) → Room ch d → getD (entriesAfter ch d xs) 0 (Then 0) ≡ getD xs 0 (Then 0)
+bottom-change (Push x) d xs r = getD-set-other xs (d + 1) 0 x (Then 0) (omega arith)
+bottom-change (Replace x) d xs r = getD-set-other xs d 0 x (Then 0) (omega arith)
+bottom-change Pop d xs r = refl
 
 module _ (limits s : List ℕ) (start n : ℕ) where
   -- for the numbers of locks and variables that the limits are of
@@ -93,21 +94,33 @@ module _ (limits s : List ℕ) (start n : ℕ) where
     pub place-bound : p ≤ n
     pub depth-bound : depth ≤ entryLimit
     pub entries-length : length entries ≡ entryLimit + 1
-    pub names : (q : ℕ) → q < nowhere → unnamed q (entriesOf depth entries) ≡ not (eqb place q)
+    pub bottom : getD entries 0 (Then 0) ≡ Block nowhere
+    pub names : place ≡ named (getD entries depth (Then 0))
     pub rest : ForLimits (RestIsWhole (entriesOf depth entries) p)
 
-  pub walking-start : (e : Entry) → Walking (replicate (entryLimit + 1) e) 0 nowhere 0
-  unfolding stackOf unnamed
-  walking-start e = record {
+  pub walking-start : Walking (replicate (entryLimit + 1) (Block nowhere)) 0 nowhere 0
+  unfolding stackOf named
+  walking-start = record {
     place-bound = omega arith;
     depth-bound = omega arith;
-    entries-length = length-replicate (entryLimit + 1) e;
-    names = λ q h. rw (ne-eqb nowhere q (omega arith));
+    entries-length = length-replicate (entryLimit + 1) (Block nowhere);
+    bottom = refl;
+    names = refl;
     rest = λ locks variables k.
         let m : n - 0 ≡ n = omega arith in
         let o : start + 4 * 0 ≡ start = omega arith in
         (rw (m, o), rest-start locks variables s start n);
   }
+
+  -- the innermost entry where the loop stands
+  pub walking-innermost : (entries : List Entry) (depth place p : ℕ) → Walking entries depth place p → p < nowhere
+      → Innermost p (eqb place p) (getD entries depth (Then 0)) (entriesOf depth entries)
+  unfolding named
+  walking-innermost entries depth place p x small =
+      innermost-of p place depth entries (λ e. ne-eqb place p (λ same.
+      let at-bottom : place ≡ nowhere = x .names ∙ ap (λ (d : ℕ). named (getD entries d (Then 0))) e ∙ ap named (x .bottom) in
+      let z : ⊥ = omega arith in
+      z)) (x .names)
 
   module _ (entries : List Entry) (depth place p : ℕ) (x : Walking entries depth place p) (more : p < n) where
     pub ends-invalid : (locks variables : ℕ) → limits ≡ limitsOf locks variables → isValid (decodeAt locks variables s (start + 4 * p)) ≡ false
@@ -135,13 +148,14 @@ module _ (limits s : List ℕ) (start n : ℕ) where
 
       -- the walk goes on
       goes-on : (entries′ : List Entry) (depth′ place′ : ℕ) → depth′ ≤ entryLimit → length entries′ ≡ entryLimit + 1
-          → ((q : ℕ) → q < nowhere → unnamed q (entriesOf depth′ entries′) ≡ not (eqb place′ q))
+          → getD entries′ 0 (Then 0) ≡ Block nowhere → place′ ≡ named (getD entries′ depth′ (Then 0))
           → ForLimits (λ locks variables. restFrom locks variables s start n p (entriesOf depth entries) ≡ restFrom locks variables s start n (p + 1) (entriesOf depth′ entries′))
           → Walking entries′ depth′ place′ (p + 1)
-      goes-on entries′ depth′ place′ h l names e = record {
+      goes-on entries′ depth′ place′ h l bottom names e = record {
         place-bound = omega arith;
         depth-bound = h;
         entries-length = l;
+        bottom = bottom;
         names = names;
         rest = λ locks variables k.
             let o : start + 4 * (p + 1) ≡ start + 4 * p + 4 = omega arith in
@@ -154,25 +168,25 @@ module _ (limits s : List ℕ) (start n : ℕ) where
             → nest p (formOf (decodedInstruction (decodeAt locks variables s (start + 4 * p)))) (entriesOf depth entries)
             ≡ choose (not (eqb place p)) (opened (entriesOf depth entries)) broken
         unfolding nest passing
-        plain-nest locks variables k = rw (plain locks variables k, x .names p small)
+        plain-nest locks variables k = rw (plain locks variables k, innermost-unnamed (walking-innermost entries depth place p x small))
 
         pub plain-broken : eqb place p ≡ true → ForLimits (λ locks variables. restFrom locks variables s start n p (entriesOf depth entries) ≡ At p)
         plain-broken e locks variables k = rest-broken locks variables s start n p (entriesOf depth entries) more (plain-nest locks variables k ∙ rw e)
 
         pub walking-plain : eqb place p ≡ false → Walking entries depth place (p + 1)
         walking-plain e =
-            goes-on entries depth place (x .depth-bound) (x .entries-length) (x .names) (λ locks variables k.
+            goes-on entries depth place (x .depth-bound) (x .entries-length) (x .bottom) (x .names) (λ locks variables k.
             rest-passed locks variables s start n p (entriesOf depth entries) (entriesOf depth entries) more (plain-nest locks variables k ∙ rw e))
 
       -- an opener or a closer
       pub walking-changed : (ch : Change) (place′ : ℕ) → Room ch depth
-          → ((q : ℕ) → q < nowhere → unnamed q (entriesOf (depthAfter ch depth) (entriesAfter ch depth entries)) ≡ not (eqb place′ q))
+          → place′ ≡ named (getD (entriesAfter ch depth entries) (depthAfter ch depth) (Then 0))
           → ForLimits (λ locks variables. restFrom locks variables s start n p (entriesOf depth entries)
           ≡ restFrom locks variables s start n (p + 1) (entriesOf (depthAfter ch depth) (entriesAfter ch depth entries)))
           → Walking (entriesAfter ch depth entries) (depthAfter ch depth) place′ (p + 1)
       walking-changed ch place′ room names e =
           goes-on (entriesAfter ch depth entries) (depthAfter ch depth) place′ (depth-change ch depth (x .depth-bound) room)
-          (length-change ch depth entries ∙ x .entries-length) names e
+          (length-change ch depth entries ∙ x .entries-length) (bottom-change ch depth entries room ∙ x .bottom) names e
 
   -- the code's end
   module _ (entries : List Entry) (depth place p : ℕ) (x : Walking entries depth place p) (none : n ≤ p) where

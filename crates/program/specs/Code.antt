@@ -4,9 +4,7 @@ use mathlib.Core.List.{List, [], _∷_}
 use lib.ListN.{length, getD, take, drop}
 use Rattle.program.specs.declared.instruction.Instruction.{Instruction}
 use Rattle.program.specs.declared.instruction.Instruction.the-variants as instruction
-use Rattle.program.specs.declared.instruction.Form.{Form}
-use Rattle.program.specs.declared.instruction.Form.the-variants.{Plain, If, Else, While, Again, Atomic, End}
-use Rattle.program.specs.Instruction.{formOf}
+use Rattle.program.specs.View.{Form, Plain, If, Else, While, Again, Atomic, End, formOf}
 
 -- each construct carries what follows it
 pub data Code : Type 0 where

@@ -8,8 +8,6 @@ use Rattle.program.specs.Field.{byteAt}
 use Rattle.program.specs.Limits.{registerCount}
 use Rattle.program.specs.declared.instruction.Instruction.{Instruction}
 use Rattle.program.specs.declared.instruction.Instruction.the-variants.{Set, Copy, Add, Sub, Less, Read, Write, Take, Give, If, Else, While, Again, Atomic, End}
-use Rattle.program.specs.declared.instruction.Form.{Form}
-use Rattle.program.specs.declared.instruction.Form.the-variants as form
 
 -- what the four bytes of an instruction say
 pub data Decoded : Type 0 where
@@ -85,21 +83,3 @@ decodedInstruction Invalid = End
 -- the four bytes at an offset
 unfoldable pub decodeAt : (locks variables : ℕ) → List ℕ → ℕ → Decoded
 decodeAt locks variables s at = decode locks variables (byteAt s at) (byteAt s (at + 1)) (byteAt s (at + 2)) (byteAt s (at + 3))
-
--- what nesting sees of an instruction
-unfoldable pub formOf : Instruction → Form
-formOf (Set a n) = form.Plain
-formOf (Copy a b) = form.Plain
-formOf (Add a b c) = form.Plain
-formOf (Sub a b c) = form.Plain
-formOf (Less a b c) = form.Plain
-formOf (Read a v) = form.Plain
-formOf (Write a v) = form.Plain
-formOf (Take k) = form.Plain
-formOf (Give k) = form.Plain
-formOf (If a n) = form.If a n
-formOf (Else n) = form.Else n
-formOf (While a n) = form.While a n
-formOf (Again n) = form.Again n
-formOf (Atomic n) = form.Atomic n
-formOf End = form.End

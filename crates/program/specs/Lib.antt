@@ -6,7 +6,7 @@
 --     Field        fields, cursor, sections
 --     Variable     variable records
 --     Instruction  the table of op codes
---     Access       the access to shared things that an instruction makes
+--     View         what the rules see of an instruction: its access or its form
 --     Nesting      entries and named places
 --     Layout       the whole file, front to back, and its contents
 --     Code         structured code
@@ -18,7 +18,7 @@ pub mod Answer
 pub mod Field
 pub mod Variable
 pub mod Instruction
-pub mod Access
+pub mod View
 pub mod Nesting
 pub mod Layout
 pub mod Code

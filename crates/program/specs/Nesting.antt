@@ -6,13 +6,11 @@ use mathlib.Core.List.{List, [], _∷_}
 use lib.ListN.{length}
 use lib.Dec.{ltb, eqb}
 use Rattle.program.specs.Choice.{choose}
-use Rattle.program.specs.Instruction.{formOf}
+use Rattle.program.specs.View.{formOf, Form, Plain, If, Else, While, Again, Atomic, End}
 use Rattle.program.specs.Limits.{entryLimit}
 use Rattle.program.specs.declared.found.Found.{Found}
 use Rattle.program.specs.declared.found.Found.the-variants.{Nowhere, At}
 use Rattle.program.specs.declared.instruction.Instruction.{Instruction}
-use Rattle.program.specs.declared.instruction.Form.{Form}
-use Rattle.program.specs.declared.instruction.Form.the-variants.{Plain, If, Else, While, Again, Atomic, End}
 use Rattle.program.specs.declared.nesting.Entry.{Entry}
 use Rattle.program.specs.declared.nesting.Entry.the-variants.{Then, Loop, Block}
 use Rattle.program.specs.declared.nesting.Entry.the-variants as entry

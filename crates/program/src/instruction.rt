@@ -4,7 +4,7 @@ ghost use mathlib.Core.Bool.{true};
 ghost use Prim.Native.Nat.{ℕ, _+_, _/_, _%_, _^_, _≤_, _<_};
 ghost use lib.ListN.{length};
 ghost use lib.Dec.{eqb};
-ghost use Rattle.program.specs.Instruction.{decodeAt, decodedInstruction, formOf};
+ghost use Rattle.program.specs.Instruction.{decodeAt, decodedInstruction};
 ghost use Rattle.program.specs.Instruction as Table;
 ghost use Rattle.program.specs.Limits.{instructionSize, lockLimit, variableLimit};
 ghost use Rattle.program.specs.Internal.Rows.{limitsOf, nestingRows, rowOf, rowTable};
@@ -20,17 +20,6 @@ pub enum Instruction {
     Write(u8, u8),
     Take(u8),
     Give(u8),
-    If(u8, u16),
-    Else(u16),
-    While(u8, u16),
-    Again(u16),
-    Atomic(u16),
-    End,
-}
-
-// What nesting sees of an instruction: an opener or a closer with its distance, or neither.
-pub enum Form {
-    Plain,
     If(u8, u16),
     Else(u16),
     While(u8, u16),
@@ -474,27 +463,4 @@ pub fn instruction_at(rows: &[u8], s: &[u8], at: usize) -> Instruction
         → (r ≡ decodedInstruction (decodeAt locks variables (now (s .entry)) at)) × RegistersGood r) ⌝ }
 {
     instruction_of(row_of(rows, s[at]), s[at + 1], s[at + 2], s[at + 3])
-}
-
-// What nesting sees of an instruction.
-pub fn form_of(i: Instruction) -> Form
-    ensures { λ r. ⌜ r ≡ formOf i ⌝ }
-{
-    match i {
-        Instruction::Set(_, _) => Form::Plain,
-        Instruction::Copy(_, _) => Form::Plain,
-        Instruction::Add(_, _, _) => Form::Plain,
-        Instruction::Sub(_, _, _) => Form::Plain,
-        Instruction::Less(_, _, _) => Form::Plain,
-        Instruction::Read(_, _) => Form::Plain,
-        Instruction::Write(_, _) => Form::Plain,
-        Instruction::Take(_) => Form::Plain,
-        Instruction::Give(_) => Form::Plain,
-        Instruction::If(a, n) => Form::If(a, n),
-        Instruction::Else(n) => Form::Else(n),
-        Instruction::While(a, n) => Form::While(a, n),
-        Instruction::Again(n) => Form::Again(n),
-        Instruction::Atomic(n) => Form::Atomic(n),
-        Instruction::End => Form::End,
-    }
 }

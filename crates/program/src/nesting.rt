@@ -1,16 +1,13 @@
 // Nesting (document 01, "The file": from "A place is an instruction's index in its thread" on): a scan with a stack of open entries.
-use crate::instruction::Instruction;
 use crate::limits::ENTRY_LIMIT;
 ghost use mathlib.Core.Path.{_≡_};
-ghost use mathlib.Core.Bool.{not};
 ghost use mathlib.Core.List.{List};
-ghost use Prim.Native.Nat.{ℕ, _-_, _^_, _<_};
-ghost use lib.ListN.{length, getD};
+ghost use Prim.Native.Nat.{ℕ, _+_, _*_, _^_, _<_};
+ghost use lib.ListN.{length};
 ghost use lib.Dec.{eqb};
-ghost use Rattle.program.specs.Instruction.{formOf};
-ghost use Rattle.program.specs.Nesting.{unnamed, opening, passing, atElse, atAgain, atEnd, nest};
+ghost use Rattle.program.specs.Nesting.{opening, atElse, atAgain, atEnd, nest};
 ghost use Rattle.program.specs.Nesting as Nesting;
-ghost use Rattle.program.specs.Internal.Change.{under, nowhere, Fulfils, entriesOf};
+ghost use Rattle.program.specs.Internal.Change.{isThen, isLoopOf, isLast, rowForm, Innermost, Fulfils};
 
 // The entries that openers open. Each names the place of its closer.
 pub enum Entry {
@@ -24,15 +21,8 @@ pub enum Entry {
     Block(usize),
 }
 
-// The innermost open entry, if any.
-pub enum Top {
-    Empty,
-    Holds(Entry),
-}
-
-// What a well nested instruction does to the open entries.
+// What a well nested opener or closer does to the open entries.
 pub enum Change {
-    Keep,
     Push(Entry),
     Replace(Entry),
     Pop,
@@ -43,6 +33,9 @@ pub enum Turn {
     Broken,
     Goes(Change),
 }
+
+// No place: more than any that an entry can name.
+pub const NOWHERE: usize = 1048576;
 
 // The place that an entry names.
 pub fn named(e: Entry) -> usize
@@ -56,168 +49,100 @@ pub fn named(e: Entry) -> usize
     }
 }
 
-// Whether the innermost entry names this place.
-fn is_named(p: usize, top: Top) -> bool
-    ensures { λ r. ⌜ ((below : List Entry) → unnamed p (under top below) ≡ not r) ⌝ }
+// The distance of an opener or a closer, by its fields b and c.
+pub fn distance(b: u8, c: u8) -> usize
+    ensures { λ r. ⌜ (r ≡ b * 256 + c) × (r < 65536) ⌝ }
 {
-    match top {
-        Top::Empty => false,
-        Top::Holds(e) => named(e) == p,
+    (b as usize) * 256 + (c as usize)
+}
+
+fn is_then(e: Entry) -> bool
+    ensures { λ r. ⌜ r ≡ isThen e ⌝ }
+{
+    match e {
+        Entry::Then(_) => true,
+        Entry::Else(_) => false,
+        Entry::Loop(_, _) => false,
+        Entry::Block(_) => false,
+    }
+}
+
+fn is_loop_of(n: usize, e: Entry) -> bool
+    ensures { λ r. ⌜ r ≡ isLoopOf n e ⌝ }
+{
+    match e {
+        Entry::Then(_) => false,
+        Entry::Else(_) => false,
+        Entry::Loop(_, m) => n == m,
+        Entry::Block(_) => false,
+    }
+}
+
+// Whether END closes an entry.
+fn is_last(e: Entry) -> bool
+    ensures { λ r. ⌜ r ≡ isLast e ⌝ }
+{
+    match e {
+        Entry::Then(_) => false,
+        Entry::Else(_) => true,
+        Entry::Loop(_, _) => false,
+        Entry::Block(_) => true,
     }
 }
 
 // IF, WHILE and ATOMIC: "another instruction stands at the innermost named place", "a distance is 0", "a 17th entry opens".
-fn at_opener(p: usize, n: usize, e: Entry, top: Top, depth: usize) -> Turn
-    ensures { λ r. ⌜ ((below : List Entry) → length (under top below) ≡ depth → Fulfils r top below (opening p n e (under top below))) ⌝ }
+fn at_opener(unnamed: bool, n: usize, e: Entry, depth: usize) -> Turn
+    ensures { λ r. ⌜ ((p : ℕ) (es : List Entry) → Nesting.unnamed p es ≡ unnamed → length es ≡ depth → Fulfils r es (opening p n e es)) ⌝ }
 {
-    if is_named(p, top) {
-        return Turn::Broken;
-    }
-    if n == 0 {
-        return Turn::Broken;
-    }
-    if depth < ENTRY_LIMIT {
+    if unnamed & (n != 0) & (depth < ENTRY_LIMIT) {
         return Turn::Goes(Change::Push(e));
     }
     Turn::Broken
 }
 
-// An instruction that neither opens nor closes.
-fn at_plain(p: usize, top: Top) -> Turn
-    ensures { λ r. ⌜ ((below : List Entry) → Fulfils r top below (passing p (under top below))) ⌝ }
-{
-    if is_named(p, top) {
-        return Turn::Broken;
-    }
-    Turn::Goes(Change::Keep)
-}
-
 // "ELSE must stand at the place its IF named and puts the place of its END there instead."
-fn at_else(p: usize, n: usize, top: Top) -> Turn
-    requires { ⌜ (p < 2 ^ 62) × (n < 2 ^ 62) ⌝ }
-    ensures { λ r. ⌜ ((below : List Entry) → Fulfils r top below (atElse p n (under top below))) ⌝ }
+fn at_else(here: bool, p: usize, n: usize, e: Entry) -> Turn
+    requires { ⌜ (p < 2 ^ 62) × (n < 65536) ⌝ }
+    ensures { λ r. ⌜ ((es : List Entry) → Innermost p here e es → Fulfils r es (atElse p n es)) ⌝ }
 {
-    let Top::Holds(e) = top else {
-        return Turn::Broken;
-    };
-    match e {
-        Entry::Then(place) => {
-            if place != p {
-                return Turn::Broken;
-            }
-            if n == 0 {
-                return Turn::Broken;
-            }
-            Turn::Goes(Change::Replace(Entry::Else(p + n)))
-        }
-        Entry::Else(_) => Turn::Broken,
-        Entry::Loop(_, _) => Turn::Broken,
-        Entry::Block(_) => Turn::Broken,
+    if is_then(e) & here & (n != 0) {
+        return Turn::Goes(Change::Replace(Entry::Else(p + n)));
     }
+    Turn::Broken
 }
 
 // "AGAIN's n differs from its WHILE's".
-fn at_again(p: usize, n: usize, top: Top) -> Turn
-    ensures { λ r. ⌜ ((below : List Entry) → Fulfils r top below (atAgain p n (under top below))) ⌝ }
+fn at_again(here: bool, n: usize, e: Entry) -> Turn
+    ensures { λ r. ⌜ ((p : ℕ) (es : List Entry) → Innermost p here e es → Fulfils r es (atAgain p n es)) ⌝ }
 {
-    let Top::Holds(e) = top else {
-        return Turn::Broken;
-    };
-    match e {
-        Entry::Then(_) => Turn::Broken,
-        Entry::Else(_) => Turn::Broken,
-        Entry::Loop(w, m) => {
-            if w != p {
-                return Turn::Broken;
-            }
-            if n == 0 {
-                return Turn::Broken;
-            }
-            if n != m {
-                return Turn::Broken;
-            }
-            Turn::Goes(Change::Pop)
-        }
-        Entry::Block(_) => Turn::Broken,
+    if here & (n != 0) & is_loop_of(n, e) {
+        return Turn::Goes(Change::Pop);
     }
+    Turn::Broken
 }
 
 // The closer of an ELSE or an ATOMIC.
-fn at_end(p: usize, top: Top) -> Turn
-    ensures { λ r. ⌜ ((below : List Entry) → Fulfils r top below (atEnd p (under top below))) ⌝ }
+fn at_end(here: bool, e: Entry) -> Turn
+    ensures { λ r. ⌜ ((p : ℕ) (es : List Entry) → Innermost p here e es → Fulfils r es (atEnd p es)) ⌝ }
 {
-    let Top::Holds(e) = top else {
-        return Turn::Broken;
-    };
-    match e {
-        Entry::Then(_) => Turn::Broken,
-        Entry::Else(w) => {
-            if w == p {
-                return Turn::Goes(Change::Pop);
-            }
-            Turn::Broken
-        }
-        Entry::Loop(_, _) => Turn::Broken,
-        Entry::Block(w) => {
-            if w == p {
-                return Turn::Goes(Change::Pop);
-            }
-            Turn::Broken
-        }
+    if is_last(e) & here {
+        return Turn::Goes(Change::Pop);
     }
+    Turn::Broken
 }
 
-fn wide(x: u16) -> usize
-    ensures { λ r. ⌜ (r ≡ x) × (r < 65536) ⌝ }
+// What the opener or closer of a row does at place p, where e is the innermost open entry, if there is one, and `place` what it names.
+pub fn turn_at(p: usize, row: u8, n: usize, place: usize, e: Entry, depth: usize) -> Turn
+    requires { ⌜ (p < 2 ^ 62) × (n < 65536) ⌝ }
+    ensures { λ r. ⌜ ((a : ℕ) (es : List Entry) → Innermost p (eqb place p) e es → length es ≡ depth → Fulfils r es (nest p (rowForm row a n) es)) ⌝ }
 {
-    x as usize
-}
-
-// What an instruction does at place p.
-pub fn turn_at(p: usize, i: Instruction, top: Top, depth: usize) -> Turn
-    requires { ⌜ p < 2 ^ 62 ⌝ }
-    ensures { λ r. ⌜ ((below : List Entry) → length (under top below) ≡ depth → Fulfils r top below (nest p (formOf i) (under top below))) ⌝ }
-{
-    match i {
-        Instruction::If(_, d) => {
-            let n = wide(d);
-            at_opener(p, n, Entry::Then(p + n), top, depth)
-        }
-        Instruction::Else(d) => at_else(p, wide(d), top),
-        Instruction::While(_, d) => {
-            let n = wide(d);
-            at_opener(p, n, Entry::Loop(p + n, n), top, depth)
-        }
-        Instruction::Again(d) => at_again(p, wide(d), top),
-        Instruction::Atomic(d) => {
-            let n = wide(d);
-            at_opener(p, n, Entry::Block(p + n), top, depth)
-        }
-        Instruction::End => at_end(p, top),
-        _ => at_plain(p, top),
-    }
-}
-
-// The open entries are elements 1 to `depth` of an array, the last of them innermost; e is the element at `depth`.
-pub fn innermost(e: Entry, depth: usize) -> Top
-    ensures { λ r. ⌜ ((entries : List Entry) → e ≡ getD entries depth (Entry.Then 0)
-        → entriesOf depth entries ≡ under r (entriesOf (depth - 1) entries)) ⌝ }
-{
-    if depth == 0 {
-        return Top::Empty;
-    }
-    Top::Holds(e)
-}
-
-// No place: more than any that an entry can name.
-pub const NOWHERE: usize = 1048576;
-
-// The place that the innermost entry names, if there is one.
-pub fn named_place(top: Top) -> usize
-    ensures { λ r. ⌜ ((p : ℕ) (below : List Entry) → p < nowhere → unnamed p (under top below) ≡ not (eqb r p)) ⌝ }
-{
-    match top {
-        Top::Empty => NOWHERE,
-        Top::Holds(e) => named(e),
+    let here = place == p;
+    match row {
+        10 => at_opener(!here, n, Entry::Then(p + n), depth),
+        11 => at_else(here, p, n, e),
+        12 => at_opener(!here, n, Entry::Loop(p + n, n), depth),
+        13 => at_again(here, n, e),
+        14 => at_opener(!here, n, Entry::Block(p + n), depth),
+        _ => at_end(here, e),
     }
 }

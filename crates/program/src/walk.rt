@@ -1,6 +1,5 @@
 // One pass over a thread's code section: the fields of its instructions and its nesting together (document 01, "Who can bring a number
 // about": 7; 8 "after all 7s of that thread").
-use crate::instruction::instruction_of;
 use crate::instruction::is_nesting;
 use crate::instruction::is_valid;
 use crate::instruction::row_of;
@@ -10,9 +9,8 @@ use crate::nesting::Change;
 use crate::nesting::Entry;
 use crate::nesting::NOWHERE;
 use crate::nesting::Turn;
-use crate::nesting::innermost;
+use crate::nesting::distance;
 use crate::nesting::named;
-use crate::nesting::named_place;
 use crate::nesting::turn_at;
 ghost use mathlib.Core.Path.{_≡_};
 ghost use mathlib.Core.List.{[]};
@@ -53,15 +51,15 @@ fn broken(rows: &[u8], limits: &[u16], s: &[u8], offset: usize, first: usize, n:
     Walked::Broken(offset)
 }
 
-// The n instructions from an offset on. An opener or a closer changes the open entries, which are elements 1 to `depth` of an array;
-// any other instruction has only to stand elsewhere than at the place that the innermost of them names.
+// The n instructions from an offset on. An opener or a closer changes the open entries, which are elements 1 to `depth` of an array, above
+// one that names no place; any other instruction has only to stand elsewhere than at the place that the innermost of them names.
 pub fn walk(rows: &[u8], limits: &[u16], s: &[u8], start: usize, n: usize) -> Walked
     requires { ⌜ (now rows ≡ rowTable) × (length (now limits) ≡ 96) × (start + instructionSize * n ≤ length (now s)) × (n ≤ instructionLimit) ⌝ }
     ensures { λ r. ⌜ ((locks variables : ℕ) → now (limits .entry) ≡ limitsOf locks variables
         → r ≡ walked (firstInvalid locks variables (now (s .entry)) n start)
         (offsetFrom start (firstBroken 0 (instructionsAt locks variables (now (s .entry)) n start) []))) ⌝ }
 {
-    let mut entries = [Entry::Block(0); ENTRY_LIMIT + 1];
+    let mut entries = [Entry::Block(NOWHERE); ENTRY_LIMIT + 1];
     let mut depth = 0;
     let mut place = NOWHERE;
     let mut p = 0;
@@ -75,15 +73,13 @@ pub fn walk(rows: &[u8], limits: &[u16], s: &[u8], start: usize, n: usize) -> Wa
             return Walked::Invalid(at);
         }
         if is_nesting(row) {
-            let i = instruction_of(row, a, b, c);
             let e = entries[depth];
-            let turn = turn_at(p, i, innermost(e, depth), depth);
+            let turn = turn_at(p, row, distance(b, c), place, e, depth);
             let Turn::Goes(change) = turn else {
                 return broken(rows, limits, s, at, at + INSTRUCTION_SIZE, n - p - 1);
             };
             p += 1;
             match change {
-                Change::Keep => {}
                 Change::Push(e) => {
                     depth += 1;
                     entries[depth] = e;
@@ -95,8 +91,7 @@ pub fn walk(rows: &[u8], limits: &[u16], s: &[u8], start: usize, n: usize) -> Wa
                 }
                 Change::Pop => {
                     depth -= 1;
-                    let e = entries[depth];
-                    place = named_place(innermost(e, depth));
+                    place = named(entries[depth]);
                 }
             }
         } else {

@@ -10,7 +10,7 @@ use mathlib.Core.List.{List, [], _∷_}
 use lib.ListN.{length, getD, List·getD-eq-default}
 use Rattle.judge.specs.Judging.{judge, judgeCode, judgeCodes, judgeProgram}
 use Rattle.judge.specs.LockSet.{empty}
-use Rattle.program.specs.Access.{accessOf}
+use Rattle.program.specs.View.{accessOf}
 use Rattle.program.proofs.Contents.{length-instructions, getD-instructions, length-variables}
 use Rattle.program.proofs.Decode.{instruction-access}
 use Rattle.program.proofs.Structure.{nested-flat}

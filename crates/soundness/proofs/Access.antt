@@ -8,7 +8,7 @@ use Rattle.judge.specs.Discipline.{kindAt, permits, accessedSet, lockSetAfter}
 use Rattle.program.proofs.Answer.{fine-inj, require-inv}
 use Rattle.judge.specs.LockSet.{holds, withLock, withoutLock}
 use Rattle.judge.specs.declared.lock_set.LockSet.{LockSet}
-use Rattle.program.specs.Access.{Access, none, reads, writes, takes, gives, accessOf}
+use Rattle.program.specs.View.{Access, none, reads, writes, takes, gives, accessOf}
 use Rattle.program.specs.Answer.{fine}
 use Rattle.program.specs.Layout.{Program}
 use Rattle.program.specs.declared.instruction.Instruction.{Instruction}

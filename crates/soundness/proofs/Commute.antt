@@ -11,7 +11,7 @@ use lib.Seq.{getD-set-other, set-comm}
 use lib.Dec.{eqb}
 use Rattle.machine.specs.Block.{coveredFrom, inside}
 use Rattle.machine.specs.State.{State, threadOf}
-use Rattle.program.specs.Access.{accessOf}
+use Rattle.program.specs.View.{accessOf}
 use Rattle.machine.specs.Step.{waits, variablesAfter, locksAfter, threadAfter, instructionOf, moveBy, outcome}
 use Rattle.machine.specs.declared.thread.Outcome.the-variants.{Moved, Waiting, Idle}
 use Rattle.machine.specs.declared.thread.Thread.{Thread}

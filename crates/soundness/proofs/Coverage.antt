@@ -21,11 +21,9 @@ use Rattle.machine.specs.Block.{covers, coveredFrom}
 use Rattle.program.proofs.StructureFlat.{length-flat}
 use Rattle.program.specs.Code.{Code, size}
 use Rattle.program.specs.Internal.WellFormed.{flat}
-use Rattle.program.specs.Instruction.{formOf}
+use Rattle.program.specs.View.{formOf, Form, Plain}
 use Rattle.program.specs.Layout.{Program}
-use Rattle.program.specs.declared.instruction.Form.{Form}
-use Rattle.program.specs.declared.instruction.Form.the-variants.{Plain}
-use Rattle.program.specs.declared.instruction.Form.the-variants as form
+use Rattle.program.specs.View as form
 use Rattle.program.specs.declared.instruction.Instruction.{Instruction}
 use Rattle.program.specs.declared.instruction.Instruction.the-variants.{Atomic, End}
 use Rattle.soundness.specs.Internal.Coverage.{Says}

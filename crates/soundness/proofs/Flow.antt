@@ -10,7 +10,7 @@ use Rattle.atomicity.specs.declared.Atomicity.the-variants.{Both}
 use Rattle.judge.specs.Discipline.{accessedSet, lockSetAfter, accessMover, moverOf, atomicityOf}
 use Rattle.judge.specs.Rules.{Legal, Typed, typed-done, typed-plain, typed-choice, typed-loop, typed-block}
 use Rattle.judge.specs.declared.lock_set.LockSet.{LockSet}
-use Rattle.program.specs.Access.{Access, none, accessOf}
+use Rattle.program.specs.View.{Access, none, accessOf}
 use Rattle.program.specs.Answer.{fine}
 use Rattle.program.specs.Code.{Code, size}
 use Rattle.program.specs.Layout.{Program}

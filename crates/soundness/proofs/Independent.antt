@@ -17,7 +17,7 @@ use Rattle.judge.specs.Discipline.{kindAt, permits, accessAtomicity, accessMove
 use Rattle.judge.specs.LockSet.{holds}
 use Rattle.judge.specs.declared.lock_set.LockSet.{LockSet}
 use Rattle.program.proofs.Differ.{differ}
-use Rattle.program.specs.Access.{Access, none, reads, writes, takes, gives}
+use Rattle.program.specs.View.{Access, none, reads, writes, takes, gives}
 use Rattle.machine.specs.Step.{waits, valueRead, variablesAfter, locksAfter}
 use Rattle.program.specs.Layout.{Program}
 use Rattle.program.specs.Internal.Sound.{AccessBelow}

@@ -11,7 +11,7 @@ use Rattle.atomicity.specs.Atomicity.{atMost}
 use Rattle.atomicity.specs.declared.Atomicity.the-variants.{Left}
 use Rattle.judge.specs.Discipline.{moverOf}
 use Rattle.machine.specs.Block.{inside}
-use Rattle.program.specs.Access.{accessOf}
+use Rattle.program.specs.View.{accessOf}
 use Rattle.machine.specs.Step.{waits, locksAfter, moveBy, outcome}
 use Rattle.machine.specs.declared.thread.Outcome.the-variants.{Moved}
 use Rattle.program.specs.Layout.{Program}

@@ -17,9 +17,7 @@ use Rattle.program.proofs.StructureFlat.{length-flat}
 use Rattle.program.specs.Choice.{choose}
 use Rattle.program.specs.Code.{Code, size}
 use Rattle.program.specs.Internal.WellFormed.{flat}
-use Rattle.program.specs.Instruction.{formOf}
-use Rattle.program.specs.declared.instruction.Form.{Form}
-use Rattle.program.specs.declared.instruction.Form.the-variants.{Plain}
+use Rattle.program.specs.View.{formOf, Form, Plain}
 use Rattle.program.specs.declared.instruction.Instruction.{Instruction}
 use Rattle.program.specs.declared.instruction.Instruction.the-variants.{End}
 use Rattle.reduction.specs.Sequence.{All, all-nil, all-cons}

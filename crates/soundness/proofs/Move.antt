@@ -19,7 +19,7 @@ use lib.Dec.{eqb}
 use Rattle.judge.specs.declared.lock_set.LockSet.{LockSet}
 use Rattle.machine.specs.State.{State, threadOf, fresh}
 use Rattle.program.proofs.Differ.{differ}
-use Rattle.program.specs.Access.{accessOf}
+use Rattle.program.specs.View.{accessOf}
 use Rattle.machine.specs.Step.{waits, valueRead, locksAfter, placeAfter, threadAfter, instructionOf, moveBy, outcome}
 use Rattle.machine.specs.declared.thread.Outcome.the-variants.{Moved, Waiting, Idle}
 use Rattle.machine.specs.declared.thread.Thread.{Thread}

@@ -8,12 +8,10 @@ use Prim.Native.Nat.{ℕ}
 use mathlib.Core.Bool.{true, false}
 use Rattle.atomicity.specs.Atomicity.{by}
 use Rattle.atomicity.specs.declared.Atomicity.{Atomicity}
-use Rattle.program.specs.Access.{Access, none, reads, writes, takes, gives, accessOf}
+use Rattle.program.specs.View.{Access, none, reads, writes, takes, gives, accessOf, formOf, Form}
 use Rattle.program.specs.Choice.{choose}
-use Rattle.program.specs.Instruction.{formOf}
 use Rattle.program.specs.Layout.{Program}
-use Rattle.program.specs.declared.instruction.Form.{Form}
-use Rattle.program.specs.declared.instruction.Form.the-variants as form
+use Rattle.program.specs.View as form
 use Rattle.program.specs.declared.instruction.Instruction.{Instruction}
 use Rattle.program.specs.declared.refusal.Refusal.the-variants as refusal
 use Rattle.judge.specs.Discipline.{kindAt, permits, accessAtomicity}

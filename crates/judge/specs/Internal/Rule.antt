@@ -9,7 +9,7 @@ use mathlib.Core.Bool.{Bool}
 use mathlib.Core.List.{List}
 use lib.Dec.{ltb, eqb}
 use lib.ListN.{length, getD}
-use Rattle.program.specs.Access.{reads, writes}
+use Rattle.program.specs.View.{reads, writes}
 use Rattle.program.specs.Choice.{choose}
 use Rattle.program.specs.Layout.{programOf}
 use Rattle.program.specs.Limits.{lockLimit, variableLimit}

@@ -9,7 +9,7 @@ use mathlib.Core.Path.{_≡_}
 use mathlib.Core.Bool.{true}
 use mathlib.Core.List.{List, []}
 use lib.ListN.{length}
-use Rattle.program.specs.Access.{Access, none, reads, writes, takes, gives, accessOf}
+use Rattle.program.specs.View.{Access, none, reads, writes, takes, gives, accessOf}
 use Rattle.program.specs.Field.{byteAt, pairAt}
 use Rattle.program.specs.Instruction.{decodeAt}
 use Rattle.program.specs.Instruction

@@ -19,7 +19,7 @@ use Rattle.atomicity.specs.declared.Atomicity.the-variants.{Left, Right}
 use Rattle.judge.specs.Discipline.{kindAt, permits}
 use Rattle.judge.specs.LockSet.{holds, withLock, withoutLock}
 use Rattle.judge.specs.declared.lock_set.LockSet.{LockSet}
-use Rattle.program.specs.Access.{Access, none, reads, writes, takes, gives, accessOf}
+use Rattle.program.specs.View.{Access, none, reads, writes, takes, gives, accessOf}
 use Rattle.machine.specs.Step.{waits, valueRead, variablesAfter, locksAfter}
 use Rattle.program.specs.Layout.{Program}
 use Rattle.program.specs.Internal.Sound.{AccessBelow}

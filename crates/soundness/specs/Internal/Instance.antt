@@ -17,7 +17,7 @@ use Rattle.judge.specs.LockSet.{empty}
 use Rattle.judge.specs.declared.lock_set.LockSet.{LockSet}
 use Rattle.machine.specs.Block.{coveredFrom}
 use Rattle.machine.specs.State.{threadOf}
-use Rattle.program.specs.Access.{Access, accessOf}
+use Rattle.program.specs.View.{Access, accessOf}
 use Rattle.machine.specs.Step.{instructionOf, outcome}
 use Rattle.machine.specs.declared.thread.Outcome.the-variants.{Moved}
 use Rattle.program.specs.Layout.{Program, codeOf}

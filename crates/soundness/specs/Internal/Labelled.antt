@@ -15,8 +15,7 @@ use lib.ListN.{getD}
 use Rattle.machine.specs.Step.{reg, placeAfter}
 use Rattle.program.specs.Code.{Code, size}
 use Rattle.program.specs.Code as code
-use Rattle.program.specs.Instruction.{formOf}
-use Rattle.program.specs.declared.instruction.Form.the-variants.{Plain}
+use Rattle.program.specs.View.{formOf, Plain}
 use Rattle.program.specs.declared.instruction.Instruction.{Instruction}
 use Rattle.program.specs.declared.instruction.Instruction.the-variants.{If, Else, While, Again, Atomic, End}
 

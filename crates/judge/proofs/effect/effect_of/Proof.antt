@@ -1,7 +1,6 @@
 -- `effect_of` meets its contract. Assumes nothing.
 use mathlib.Core.Path.{_∙_}
-use Rattle.program.specs.Access.{accessOf}
-use Rattle.program.specs.Instruction.{formOf}
+use Rattle.program.specs.View.{accessOf, formOf}
 use Rattle.program.specs.Layout.{programOf}
 use Rattle.program.proofs.Seen.{keysBeside, unnamed-local}
 use Rattle.judge.specs.Internal.Effect.{accessEffect, formEffect, effectOf}

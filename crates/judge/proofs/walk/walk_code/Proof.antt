@@ -5,7 +5,7 @@ use mathlib.Core.Bool.{true, false}
 use lib.ListN.{length, length-set}
 use native.Mathlib.Omega.{arith}
 use borrow.Author.Needs.{needs}
-use Rattle.program.specs.Access.{accessOf}
+use Rattle.program.specs.View.{accessOf}
 use Rattle.program.specs.Instruction.{decodeAt, decodedInstruction}
 use Rattle.program.specs.Layout.{programOf}
 use Rattle.program.specs.Limits.{lockLimit, variableLimit}

@@ -1,8 +1,7 @@
 -- `move_of` meets its contract, arm by arm: an instruction's own effect is what its Move says. Assumes nothing.
 use mathlib.Core.Path.{refl}
 use borrow.Author.Needs.{needs}
-use Rattle.program.specs.Access.{accessOf}
-use Rattle.program.specs.Instruction.{formOf}
+use Rattle.program.specs.View.{accessOf, formOf}
 use Rattle.machine.specs.Step.{resultOf, placeAfter, placeBehind}
 use Rattle.machine.specs.Internal.Effect.{Does}
 use Rattle.machine.proofs.Effect.{effect-of, does-branch}

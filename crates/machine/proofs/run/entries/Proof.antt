@@ -8,7 +8,7 @@ use native.Mathlib.Omega.{arith}
 use borrow.Author.Needs.{needs}
 use borrow.Author.Tests.{eq-eqb, ne-eqb}
 use lib.ListN.{length, getD, set}
-use Rattle.program.specs.Access.{Access}
+use Rattle.program.specs.View.{Access}
 use Rattle.program.specs.Instruction.{decodeAt, decodedInstruction}
 use Rattle.program.specs.Limits.{lockLimit, threadLimit, variableLimit}
 use Rattle.program.specs.Internal.Bounds.{largestPlace}

@@ -1,22 +1,24 @@
 -- `walk`: both searches from this place on are the whole ones, with the entries in the array. Assumes nothing.
-use Prim.Native.Nat.{ℕ, _+_, _-_, _*_, _<_}
-use mathlib.Core.Path.{_≡_, refl, sym, ap, _∙_}
-use mathlib.Core.Bool.{false, not}
+use Prim.Native.Nat.{ℕ, _+_, _-_, _*_}
+use mathlib.Core.Path.{_≡_, sym, ap, _∙_}
+use mathlib.Core.Bool.{false}
+use lib.ListN.{getD}
 use native.Mathlib.Omega.{arith}
 use borrow.Author.Needs.{needs}
 use borrow.Author.Tests.{not-true, not-false, eq-eqb, ne-eqb}
-use lib.Dec.{eqb}
-use Rattle.program.specs.Instruction.{isValid, decodeAt, decodedInstruction, formOf}
-use Rattle.program.specs.Nesting.{unnamed}
-use Rattle.program.specs.Internal.Change.{entriesOf, entriesAfter, depthAfter, nowhere, under, Room}
+use Rattle.program.specs.Instruction.{isValid, decodeAt, decodedInstruction}
+use Rattle.program.specs.Nesting.{named, nest}
+use Rattle.program.specs.View.{Plain, formOf}
+use Rattle.program.specs.Internal.Change.{entriesOf, entriesAfter, depthAfter, rowForm, Room, Fulfils}
 use Rattle.program.specs.Internal.Rows.{limitsOf}
-use Rattle.program.specs.declared.instruction.Form.the-variants.{Plain}
 use Rattle.program.specs.declared.nesting.Change.{Change}
-use Rattle.program.specs.declared.nesting.Change.the-variants.{Keep, Push, Replace, Pop}
+use Rattle.program.specs.declared.nesting.Change.the-variants.{Push, Replace, Pop}
+use Rattle.program.specs.declared.nesting.Entry.the-variants.{Then}
 use Rattle.program.specs.declared.nesting.Turn.the-variants.{Goes}
-use Rattle.program.proofs.Decode.{row-plain}
+use Rattle.program.proofs.Decode.{row-plain, row-form}
 use Rattle.program.proofs.Scan.{turn-broken, turn-room, turn-goes}
-use Rattle.program.proofs.Walking.{ForLimits, ValidAt, Walking, names-pushed, names-replaced, walking-start, ends-invalid, ends-broken, plain-broken, walking-plain, walking-changed, walking-nested, walking-open}
+use Rattle.program.proofs.Stack.{length-stack}
+use Rattle.program.proofs.Walking.{ForLimits, ValidAt, Walking, names-stored, walking-start, walking-innermost, ends-invalid, ends-broken, plain-broken, walking-plain, walking-changed, walking-nested, walking-open}
 use Rattle.program.proofs.walk.walk.Statement.{statement}
 use Rattle.program.proofs.walk.walk.Tie as tie
 
@@ -48,41 +50,43 @@ plain-there c locks variables k =
     row-plain locks variables _ _ _ _ (valid-there (c .before .before) locks variables k)
     (rw (← c .before .before .before .before .before .before .before .row-of .ensures .0) (sym (c .before .is-nesting .ensures) ∙ c .if2 .left))
 
--- One turn, by what `instruction_of`, `innermost` and `turn_at` ensure
-abbrev AfterTurn : Type 0
-AfterTurn = tie.After-turn-at Inv-loop μ-loop
-
-instruction-said : (u : AfterTurn)
-    → let a = u .before .before .before .before .before .before .before .before .before .before .before .before .before .before .before .before .before .before .args in ForLimits (a .limits .now) (a .s .now) (a .start) (a .n) (λ locks variables.
-    u .before .before .before .instruction-of .result ≡ decodedInstruction (decodeAt locks variables (a .s .now) (a .start + 4 * u .before .before .before .before .before .before .before .before .before .before .before .before .before .before .loop .p)))
+-- What is known after a turn: the form of the instruction at hand, where its first field is a
+form-there : (u : tie.After-turn-at Inv-loop μ-loop)
+    → let a = u .before .before .before .before .before .before .before .before .before .before .before .before .before .before .before .before .before .args in ForLimits (a .limits .now) (a .s .now) (a .start) (a .n) (λ locks variables.
+    rowForm (u .before .before .before .before .before .before .before .before .before .before .row-of .result) (getD (u .before .before .before .before .before .before .before .before .before .before .before .before .before .before .before .before .before .args .s .now) (u .before .before .before .before .before .before .before .before .before .before .before .before .before .before .before .before .before .args .start + 4 * u .before .before .before .before .before .before .before .before .before .before .before .before .before .loop .p + 1) 0) (u .before .distance .result) ≡ formOf (decodedInstruction (decodeAt locks variables (a .s .now) (a .start + 4 * u .before .before .before .before .before .before .before .before .before .before .before .before .before .loop .p))))
 unfolding decodeAt
-instruction-said u locks variables k =
-    u .before .before .before .instruction-of .ensures locks variables _ (u .before .before .before .before .before .before .before .before .before .before .before .row-of .ensures .0) (valid-there (u .before .before .before .before .before .before) locks variables k) .0
+form-there u locks variables k =
+    rw (u .before .before .before .before .before .before .before .before .before .before .row-of .ensures .0, u .before .distance .ensures .0)
+    (sym (row-form locks variables _ _ _ _ (valid-there (u .before .before .before .before .before) locks variables k)
+    (rw (← u .before .before .before .before .before .before .before .before .before .before .row-of .ensures .0) (sym (u .before .before .before .before .is-nesting .ensures) ∙ u .before .before .before .if2 .taken))))
 
-entries-under-top : (u : AfterTurn)
-    → let l = u .before .before .before .before .before .before .before .before .before .before .before .before .before .before .loop in entriesOf (l .depth) (l .entries) ≡ under (u .before .innermost .result) (entriesOf (l .depth - 1) (l .entries))
-entries-under-top u = u .before .innermost .ensures (u .before .before .before .before .before .before .before .before .before .before .before .before .before .before .loop .entries) refl
+turn-right : (u : tie.After-turn-at Inv-loop μ-loop)
+    → let l = u .before .before .before .before .before .before .before .before .before .before .before .before .before .loop in Fulfils (u .turn-at .result) (entriesOf (l .depth) (l .entries)) (nest (l .p) (rowForm (u .before .before .before .before .before .before .before .before .before .before .row-of .result) (getD (u .before .before .before .before .before .before .before .before .before .before .before .before .before .before .before .before .before .args .s .now) (u .before .before .before .before .before .before .before .before .before .before .before .before .before .before .before .before .before .args .start + 4 * u .before .before .before .before .before .before .before .before .before .before .before .before .before .loop .p + 1) 0) (u .before .distance .result)) (entriesOf (l .depth) (l .entries)))
+turn-right u =
+    let a = u .before .before .before .before .before .before .before .before .before .before .before .before .before .before .before .before .before .args in
+    let l = u .before .before .before .before .before .before .before .before .before .before .before .before .before .loop in
+    u .turn-at .ensures (getD (u .before .before .before .before .before .before .before .before .before .before .before .before .before .before .before .before .before .args .s .now) (u .before .before .before .before .before .before .before .before .before .before .before .before .before .before .before .before .before .args .start + 4 * u .before .before .before .before .before .before .before .before .before .before .before .before .before .loop .p + 1) 0) (entriesOf (l .depth) (l .entries))
+    (walking-innermost (a .limits .now) (a .s .now) (a .start) (a .n) (l .entries) (l .depth) (l .place) (l .p) (l .inv) (omega arith))
+    (length-stack (Then 0) (l .depth) (l .entries))
 
-change-room : (u : AfterTurn) (ch : Change) → u .turn-at .result ≡ Goes ch → Room ch (u .before .before .before .before .before .before .before .before .before .before .before .before .before .before .loop .depth)
-change-room u =
-    let l = u .before .before .before .before .before .before .before .before .before .before .before .before .before .before .loop in
-    turn-room (l .p) (l .depth) (l .entries) (u .turn-at .result) (u .before .innermost .result) (u .before .before .before .instruction-of .result) (entries-under-top u) (u .turn-at .ensures)
+change-room : (u : tie.After-turn-at Inv-loop μ-loop) (ch : Change) → u .turn-at .result ≡ Goes ch → Room ch (u .before .before .before .before .before .before .before .before .before .before .before .before .before .loop .depth)
+change-room u = let l = u .before .before .before .before .before .before .before .before .before .before .before .before .before .loop in turn-room (l .p) (l .depth) (l .entries) (u .turn-at .result) (rowForm (u .before .before .before .before .before .before .before .before .before .before .row-of .result) (getD (u .before .before .before .before .before .before .before .before .before .before .before .before .before .before .before .before .before .args .s .now) (u .before .before .before .before .before .before .before .before .before .before .before .before .before .before .before .before .before .args .start + 4 * u .before .before .before .before .before .before .before .before .before .before .before .before .before .loop .p + 1) 0) (u .before .distance .result)) (turn-right u)
 
 -- the invariant, after a change of the entries
-changed : (u : AfterTurn) (ch : Change) (place : ℕ) → u .turn-at .result ≡ Goes ch
-    → let a = u .before .before .before .before .before .before .before .before .before .before .before .before .before .before .before .before .before .before .args in let l = u .before .before .before .before .before .before .before .before .before .before .before .before .before .before .loop in
-    ((q : ℕ) → q < nowhere → unnamed q (entriesOf (depthAfter ch (l .depth)) (entriesAfter ch (l .depth) (l .entries))) ≡ not (eqb place q))
+changed : (u : tie.After-turn-at Inv-loop μ-loop) (ch : Change) (place : ℕ) → u .turn-at .result ≡ Goes ch
+    → let a = u .before .before .before .before .before .before .before .before .before .before .before .before .before .before .before .before .before .args in let l = u .before .before .before .before .before .before .before .before .before .before .before .before .before .loop in
+    place ≡ named (getD (entriesAfter ch (l .depth) (l .entries)) (depthAfter ch (l .depth)) (Then 0))
     → Walking (a .limits .now) (a .s .now) (a .start) (a .n) (entriesAfter ch (l .depth) (l .entries)) (depthAfter ch (l .depth)) place (l .p + 1)
 changed u ch place e names =
-    let a = u .before .before .before .before .before .before .before .before .before .before .before .before .before .before .before .before .before .before .args in
-    let l = u .before .before .before .before .before .before .before .before .before .before .before .before .before .before .loop in
-    walking-changed (a .limits .now) (a .s .now) (a .start) (a .n) (l .entries) (l .depth) (l .place) (l .p) (l .inv) (u .before .before .before .before .before .before .before .before .before .before .before .before .before .loop-test .taken) (valid-there (u .before .before .before .before .before .before))
+    let a = u .before .before .before .before .before .before .before .before .before .before .before .before .before .before .before .before .before .args in
+    let l = u .before .before .before .before .before .before .before .before .before .before .before .before .before .loop in
+    walking-changed (a .limits .now) (a .s .now) (a .start) (a .n) (l .entries) (l .depth) (l .place) (l .p) (l .inv) (u .before .before .before .before .before .before .before .before .before .before .before .before .loop-test .taken) (valid-there (u .before .before .before .before .before))
     ch place (change-room u ch e) names (λ locks variables k.
-    turn-goes (l .p) (l .depth) (l .entries) (u .turn-at .result) (u .before .innermost .result) (u .before .before .before .instruction-of .result) (entries-under-top u) (u .turn-at .ensures)
-    locks variables (a .s .now) (a .start) (a .n) (instruction-said u locks variables k) (u .before .before .before .before .before .before .before .before .before .before .before .before .before .loop-test .taken) ch e (l .inv .entries-length) (l .inv .depth-bound))
+    turn-goes (l .p) (l .depth) (l .entries) (u .turn-at .result) (rowForm (u .before .before .before .before .before .before .before .before .before .before .row-of .result) (getD (u .before .before .before .before .before .before .before .before .before .before .before .before .before .before .before .before .before .args .s .now) (u .before .before .before .before .before .before .before .before .before .before .before .before .before .before .before .before .before .args .start + 4 * u .before .before .before .before .before .before .before .before .before .before .before .before .before .loop .p + 1) 0) (u .before .distance .result)) (turn-right u)
+    locks variables (a .s .now) (a .start) (a .n) (form-there u locks variables k) (u .before .before .before .before .before .before .before .before .before .before .before .before .loop-test .taken) ch e (l .inv .entries-length) (l .inv .depth-bound))
 
 loop-holds : tie.Need-loop-holds Inv-loop μ-loop
-loop-holds c = walking-start _ _ _ _ _
+loop-holds c = walking-start _ _ _ _
 
 -- `let at = start + INSTRUCTION_SIZE * p`
 mul-at : tie.Need-mul-at Inv-loop μ-loop
@@ -135,10 +139,6 @@ returns c locks variables k =
 is-nesting-requires : tie.Need-is-nesting-requires Inv-loop μ-loop
 is-nesting-requires c κs = c .before .before .before .before .before .row-of .ensures .1
 
--- `let i = instruction_of(row, a, b, c)`
-instruction-of-requires : tie.Need-instruction-of-requires Inv-loop μ-loop
-instruction-of-requires c κs = search needs
-
 -- `let e = entries[depth]`
 mul-e : tie.Need-mul-e Inv-loop μ-loop
 mul-e c = omega arith
@@ -146,20 +146,20 @@ mul-e c = omega arith
 array-copy-out-e : tie.Need-array-copy-out-e Inv-loop μ-loop
 array-copy-out-e c = omega arith
 
--- `let turn = turn_at(p, i, innermost(e, depth), depth)`
-innermost-requires : tie.Need-innermost-requires Inv-loop μ-loop
-innermost-requires c κs = search needs
+-- `let turn = turn_at(p, row, distance(b, c), place, e, depth)`
+distance-requires : tie.Need-distance-requires Inv-loop μ-loop
+distance-requires c κs = search needs
 
 turn-at-requires : tie.Need-turn-at-requires Inv-loop μ-loop
 turn-at-requires c κs = omega arith
 
 -- `let Turn::Goes(change) = turn else`
 enum-known-turn : tie.Need-enum-known-turn Inv-loop μ-loop
-enum-known-turn c = search needs
+enum-known-turn c = omega arith
 
 -- `return broken(rows, limits, s, at, at + INSTRUCTION_SIZE, n - p - 1)`
 enum-told : tie.Need-enum-told Inv-loop μ-loop
-enum-told c = search needs
+enum-told c = omega arith
 
 add-broken : tie.Need-add-broken Inv-loop μ-loop
 add-broken c = omega arith
@@ -171,36 +171,25 @@ sub-broken-2 : tie.Need-sub-broken-2 Inv-loop μ-loop
 sub-broken-2 c = omega arith
 
 broken-requires : tie.Need-broken-requires Inv-loop μ-loop
-broken-requires c κs = (c .before .before .before .before .before .before .before .before .before .before .before .before .before .before .before .before .before .before .before .before .pre .0, c .before .before .before .before .before .before .before .before .before .before .before .before .before .before .before .before .before .before .before .before .pre .1, omega arith)
+broken-requires c κs = (c .before .before .before .before .before .before .before .before .before .before .before .before .before .before .before .before .before .before .before .pre .0, c .before .before .before .before .before .before .before .before .before .before .before .before .before .before .before .before .before .before .before .pre .1, omega arith)
 
 returns-2 : tie.Need-returns-2 Inv-loop μ-loop
 returns-2 c locks variables k =
     let u = c .before .before .before in
-    let a = u .before .before .before .before .before .before .before .before .before .before .before .before .before .before .before .before .before .before .args in
-    let l = u .before .before .before .before .before .before .before .before .before .before .before .before .before .before .loop in
+    let a = u .before .before .before .before .before .before .before .before .before .before .before .before .before .before .before .before .before .args in
+    let l = u .before .before .before .before .before .before .before .before .before .before .before .before .before .loop in
     c .broken .ensures locks variables k
-    ∙ ends-broken (a .limits .now) (a .s .now) (a .start) (a .n) (l .entries) (l .depth) (l .place) (l .p) (l .inv) (u .before .before .before .before .before .before .before .before .before .before .before .before .before .loop-test .taken) (valid-there (u .before .before .before .before .before .before)) locks variables k
-    (turn-broken (l .p) (l .depth) (l .entries) (u .turn-at .result) (u .before .innermost .result) (u .before .before .before .instruction-of .result) (entries-under-top u) (u .turn-at .ensures)
-    locks variables (a .s .now) (a .start) (a .n) (instruction-said u locks variables k) (u .before .before .before .before .before .before .before .before .before .before .before .before .before .loop-test .taken) (c .before .enum-told .given .1))
+    ∙ ends-broken (a .limits .now) (a .s .now) (a .start) (a .n) (l .entries) (l .depth) (l .place) (l .p) (l .inv) (u .before .before .before .before .before .before .before .before .before .before .before .before .loop-test .taken) (valid-there (u .before .before .before .before .before)) locks variables k
+    (turn-broken (l .p) (l .depth) (l .entries) (u .turn-at .result) _ (turn-right u)
+    locks variables (a .s .now) (a .start) (a .n) (form-there u locks variables k) (u .before .before .before .before .before .before .before .before .before .before .before .before .loop-test .taken) (c .before .enum-told .given .1))
 
 -- `p += 1`
 add-p : tie.Need-add-p Inv-loop μ-loop
 add-p c = omega arith
 
-enum-told-2 : tie.Need-enum-told-2 Inv-loop μ-loop
-enum-told-2 c = search needs
-
-loop-less : tie.Need-loop-less Inv-loop μ-loop
-loop-less c = omega arith
-
-loop-again : tie.Need-loop-again Inv-loop μ-loop
-loop-again c =
-    let u = c .before .before .before .before .before in
-    changed u Keep (u .before .before .before .before .before .before .before .before .before .before .before .before .before .before .loop .place) (c .before .before .before .turn .given .1 ∙ ap Goes (c .enum-told2 .given .1)) (u .before .before .before .before .before .before .before .before .before .before .before .before .before .before .loop .inv .names)
-
 -- `Change::Push(e) =>`
 enum-known-change : tie.Need-enum-known-change Inv-loop μ-loop
-enum-known-change c = search needs
+enum-known-change c = omega arith
 
 -- `depth += 1`
 add-depth : tie.Need-add-depth Inv-loop μ-loop
@@ -215,23 +204,22 @@ array-set-from-entries c = omega (arith, change-room (c .before .before .before 
 
 -- `place = named(e)`
 named-requires : tie.Need-named-requires Inv-loop μ-loop
-named-requires c κs = search needs
+named-requires c κs = omega arith
 
-loop-less-2 : tie.Need-loop-less-2 Inv-loop μ-loop
-loop-less-2 c = omega arith
+loop-less : tie.Need-loop-less Inv-loop μ-loop
+loop-less c = omega arith
 
-loop-again-2 : tie.Need-loop-again-2 Inv-loop μ-loop
-loop-again-2 c =
+loop-again : tie.Need-loop-again Inv-loop μ-loop
+loop-again c =
     let u = c .before .before .before .before .before .before .before in
-    let l = u .before .before .before .before .before .before .before .before .before .before .before .before .before .before .loop in
+    let l = u .before .before .before .before .before .before .before .before .before .before .before .before .before .loop in
     let e = c .before .before .change .given .0 .0 in
     let goes = c .before .before .before .before .before .turn .given .1 ∙ ap Goes (c .before .before .change .given .1) in
-    changed u (Push e) (c .named .result) goes (λ q _.
-    rw (c .named .ensures) (names-pushed (l .entries) (l .depth) e (omega (arith, l .inv .entries-length, change-room u (Push e) goes)) q))
+    changed u (Push e) (c .named .result) goes (c .named .ensures ∙ names-stored (l .entries) (l .depth + 1) e (omega (arith, l .inv .entries-length, change-room u (Push e) goes)))
 
 -- `Change::Replace(e) =>`
 enum-known-change-2 : tie.Need-enum-known-change-2 Inv-loop μ-loop
-enum-known-change-2 c = search needs
+enum-known-change-2 c = omega arith
 
 -- `entries[depth] = e`
 mul-entries-2 : tie.Need-mul-entries-2 Inv-loop μ-loop
@@ -242,7 +230,35 @@ array-set-from-entries-2 c = omega arith
 
 -- `place = named(e)`
 named-requires-2 : tie.Need-named-requires-2 Inv-loop μ-loop
-named-requires-2 c κs = search needs
+named-requires-2 c κs = omega arith
+
+loop-less-2 : tie.Need-loop-less-2 Inv-loop μ-loop
+loop-less-2 c = omega arith
+
+loop-again-2 : tie.Need-loop-again-2 Inv-loop μ-loop
+loop-again-2 c =
+    let u = c .before .before .before .before .before .before .before in
+    let l = u .before .before .before .before .before .before .before .before .before .before .before .before .before .loop in
+    let e = c .before .before .change2 .given .0 .0 in
+    let goes = c .before .before .before .before .before .turn .given .1 ∙ ap Goes (c .before .before .change2 .given .1) in
+    changed u (Replace e) (c .named2 .result) goes (c .named2 .ensures ∙ names-stored (l .entries) (l .depth) e (omega (arith, l .inv .entries-length, l .inv .depth-bound)))
+
+-- `depth -= 1`
+enum-told-2 : tie.Need-enum-told-2 Inv-loop μ-loop
+enum-told-2 c = omega arith
+
+sub-depth : tie.Need-sub-depth Inv-loop μ-loop
+sub-depth c = omega (arith, change-room (c .before .before .before .before .before) Pop (c .before .before .before .turn .given .1 ∙ ap Goes (c .enum-told2 .given .1)))
+
+-- `place = named(entries[depth])`
+mul-named : tie.Need-mul-named Inv-loop μ-loop
+mul-named c = omega arith
+
+array-copy-out-named : tie.Need-array-copy-out-named Inv-loop μ-loop
+array-copy-out-named c = omega arith
+
+named-requires-3 : tie.Need-named-requires-3 Inv-loop μ-loop
+named-requires-3 c κs = omega arith
 
 loop-less-3 : tie.Need-loop-less-3 Inv-loop μ-loop
 loop-less-3 c = omega arith
@@ -250,43 +266,7 @@ loop-less-3 c = omega arith
 loop-again-3 : tie.Need-loop-again-3 Inv-loop μ-loop
 loop-again-3 c =
     let u = c .before .before .before .before .before .before .before in
-    let l = u .before .before .before .before .before .before .before .before .before .before .before .before .before .before .loop in
-    let e = c .before .before .change2 .given .0 .0 in
-    let goes = c .before .before .before .before .before .turn .given .1 ∙ ap Goes (c .before .before .change2 .given .1) in
-    changed u (Replace e) (c .named2 .result) goes (λ q _.
-    rw (c .named2 .ensures) (names-replaced (l .entries) (l .depth) e (change-room u (Replace e) goes) (omega (arith, l .inv .entries-length, l .inv .depth-bound)) q))
-
--- `depth -= 1`
-enum-told-3 : tie.Need-enum-told-3 Inv-loop μ-loop
-enum-told-3 c = search needs
-
-sub-depth : tie.Need-sub-depth Inv-loop μ-loop
-sub-depth c = omega (arith, change-room (c .before .before .before .before .before) Pop (c .before .before .before .turn .given .1 ∙ ap Goes (c .enum-told3 .given .1)))
-
--- `let e = entries[depth]`
-mul-e-2 : tie.Need-mul-e-2 Inv-loop μ-loop
-mul-e-2 c = omega arith
-
-array-copy-out-e-2 : tie.Need-array-copy-out-e-2 Inv-loop μ-loop
-array-copy-out-e-2 c = omega arith
-
--- `place = named_place(innermost(e, depth))`
-innermost-requires-2 : tie.Need-innermost-requires-2 Inv-loop μ-loop
-innermost-requires-2 c κs = search needs
-
-named-place-requires : tie.Need-named-place-requires Inv-loop μ-loop
-named-place-requires c κs = search needs
-
-loop-less-4 : tie.Need-loop-less-4 Inv-loop μ-loop
-loop-less-4 c = omega arith
-
-loop-again-4 : tie.Need-loop-again-4 Inv-loop μ-loop
-loop-again-4 c =
-    let u = c .before .before .before .before .before .before .before .before in
-    let l = u .before .before .before .before .before .before .before .before .before .before .before .before .before .before .loop in
-    let below = l .depth - 1 in
-    changed u Pop (c .named-place .result) (c .before .before .before .before .before .before .turn .given .1 ∙ ap Goes (c .before .before .before .enum-told3 .given .1)) (λ q small.
-    rw (c .before .innermost2 .ensures (l .entries) refl) (c .named-place .ensures q (entriesOf (below - 1) (l .entries)) small))
+    changed u Pop (c .named3 .result) (c .before .before .before .before .before .turn .given .1 ∙ ap Goes (c .before .before .enum-told2 .given .1)) (c .named3 .ensures)
 
 -- `return broken(rows, limits, s, at, at + INSTRUCTION_SIZE, n - p - 1)`
 add-broken-2 : tie.Need-add-broken-2 Inv-loop μ-loop
@@ -315,11 +295,11 @@ returns-3 c locks variables k =
 add-p-2 : tie.Need-add-p-2 Inv-loop μ-loop
 add-p-2 c = omega arith
 
-loop-less-5 : tie.Need-loop-less-5 Inv-loop μ-loop
-loop-less-5 c = omega arith
+loop-less-4 : tie.Need-loop-less-4 Inv-loop μ-loop
+loop-less-4 c = omega arith
 
-loop-again-5 : tie.Need-loop-again-5 Inv-loop μ-loop
-loop-again-5 c =
+loop-again-4 : tie.Need-loop-again-4 Inv-loop μ-loop
+loop-again-4 c =
     let a = c .before .before .before .before .before .before .before .before .before .before .before .before .before .before .before .args in
     let l = c .before .before .before .before .before .before .before .before .before .before .before .loop in
     walking-plain (a .limits .now) (a .s .now) (a .start) (a .n) (l .entries) (l .depth) (l .place) (l .p) (l .inv) (c .before .before .before .before .before .before .before .before .before .before .loop-test .taken) (valid-there (c .before .before .before)) (plain-there (c .before)) (omega arith)
@@ -333,11 +313,11 @@ returns-4 c =
     walking-nested (a .limits .now) (a .s .now) (a .start) (a .n) (l .entries) (l .depth) (l .place) (l .p) (l .inv) (c .before .loop-test .left) (c .if4 .taken)
 
 -- `Walked::Broken(start + INSTRUCTION_SIZE * n)`
-mul-t56 : tie.Need-mul-t56 Inv-loop μ-loop
-mul-t56 c = omega arith
+mul-t52 : tie.Need-mul-t52 Inv-loop μ-loop
+mul-t52 c = omega arith
 
-add-t57 : tie.Need-add-t57 Inv-loop μ-loop
-add-t57 c = omega arith
+add-t53 : tie.Need-add-t53 Inv-loop μ-loop
+add-t53 c = omega arith
 
 returns-5 : tie.Need-returns-5 Inv-loop μ-loop
 returns-5 c =
@@ -365,10 +345,9 @@ walk-spec =
     is-valid-requires
     returns
     is-nesting-requires
-    instruction-of-requires
     mul-e
     array-copy-out-e
-    innermost-requires
+    distance-requires
     turn-at-requires
     enum-known-turn
     enum-told
@@ -378,39 +357,35 @@ walk-spec =
     broken-requires
     returns-2
     add-p
-    enum-told-2
-    loop-less
-    loop-again
     enum-known-change
     add-depth
     mul-entries
     array-set-from-entries
     named-requires
-    loop-less-2
-    loop-again-2
+    loop-less
+    loop-again
     enum-known-change-2
     mul-entries-2
     array-set-from-entries-2
     named-requires-2
+    loop-less-2
+    loop-again-2
+    enum-told-2
+    sub-depth
+    mul-named
+    array-copy-out-named
+    named-requires-3
     loop-less-3
     loop-again-3
-    enum-told-3
-    sub-depth
-    mul-e-2
-    array-copy-out-e-2
-    innermost-requires-2
-    named-place-requires
-    loop-less-4
-    loop-again-4
     add-broken-2
     sub-broken-3
     sub-broken-4
     broken-requires-2
     returns-3
     add-p-2
-    loop-less-5
-    loop-again-5
+    loop-less-4
+    loop-again-4
     returns-4
-    mul-t56
-    add-t57
+    mul-t52
+    add-t53
     returns-5)
