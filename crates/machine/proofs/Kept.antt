@@ -3,16 +3,17 @@
 --     length-variables-after, length-locks-after, length-registers-after
 --                            an access and an instruction keep the lists' lengths
 --     access-below-limits    the instruction at a thread's place names locks and variables that the arrays have
---     entry-idle, entry-waiting, entry-moved
---                            the entry, from what the code finds
---     kept-moved             what a move leaves is kept
+--     step-idle              a step at the code's end
+--     stepped                any other step, from what the code finds; what it leaves is kept
 use Prim.Native.Nat.{ℕ, suc, _+_, _*_, _≤_, _<_}
 use mathlib.Core.Path.{_≡_, refl, sym, ap, _∙_, subst}
 use mathlib.Core.Bool.{true, false}
-use mathlib.Core.List.{List, _∷_}
+use mathlib.Core.List.{List}
 use native.Mathlib.Omega.{arith}
+use borrow.Author.Tests.{eq-eqb, ne-eqb}
 use lib.ListN.{length, getD, set, take, replicate, length-set, getD-replicate}
 use lib.Seq.{getD-take, take-set-lt}
+use Rattle.program.specs.Choice.{choose}
 use Rattle.program.specs.View.{Access, none, reads, writes, takes, gives, accessOf}
 use Rattle.program.specs.Instruction.{decodeAt, decodedInstruction}
 use Rattle.program.specs.Layout.{CodeSection, programOf, codeOf, instructionsAt}
@@ -25,12 +26,12 @@ use Rattle.program.specs.declared.layout.Layout.{Layout}
 use Rattle.program.proofs.Contents.{length-instructions, getD-instructions}
 use Rattle.program.proofs.Decode.{instruction-access, access-wider}
 use Rattle.program.proofs.Lists.{getD-first, getD-set-holds}
-use Rattle.machine.specs.State.{fresh, threadOf}
-use Rattle.machine.specs.Step.{waits, valueRead, variablesAfter, locksAfter, Result, keeps, puts, resultOf, stored, placeAfter, registersAfter, threadAfter, instructionOf, moveBy}
-use Rattle.machine.specs.Run.{runFrom}
-use Rattle.machine.specs.Internal.Kept.{stateIn, nobody, EightRegisters, Kept}
+use Rattle.machine.specs.State.{State, fresh, threadOf}
+use Rattle.machine.specs.Step.{waits, valueRead, variablesAfter, locksAfter, Result, keeps, puts, resultOf, stored, placeAfter, registersAfter, threadAfter, instructionOf, moveBy, outcome, after, step}
+use Rattle.machine.specs.Internal.Kept.{stateIn, nobody, moveThread, EightRegisters, Kept}
+use Rattle.machine.specs.declared.thread.Outcome.{Outcome}
+use Rattle.machine.specs.declared.thread.Outcome.the-variants.{Moved, Waiting, Idle}
 use Rattle.machine.specs.declared.thread.Thread.{Thread}
-use Rattle.machine.proofs.Outcome.{runFrom-idle, runFrom-waiting, runFrom-moved}
 use Rattle.machine.proofs.Fields.{place-inside}
 
 -- a thread that has not moved is at place 0
@@ -145,10 +146,12 @@ module _ {s : List ℕ} {l : Layout} {starts counts vs ks : List ℕ} {ths : Lis
       rw (thread-first, code-located)
       (getD-instructions (l .locks) (l .variables) s (getD counts t 0) (getD starts t 0) (getD ths t nobody .place) (place-below n))
 
-  pub entry-idle : (m w d : ℕ) (ts : List ℕ) → getD ths t nobody .place ≡ getD counts t 0
-      → runFrom (programOf s l) (record { counts = record { moved = m; waiting = w; idle = d }; state = stateIn l vs ks ths }) (t ∷ ts)
-      ≡ runFrom (programOf s l) (record { counts = record { moved = m; waiting = w; idle = d + 1 }; state = stateIn l vs ks ths }) ts
-  entry-idle m w d ts e = runFrom-idle (programOf s l) t _ ts (at-end e)
+  abbrev here : State
+  here = stateIn l vs ks ths
+
+  pub step-idle : getD ths t nobody .place ≡ getD counts t 0 → (Idle ≡ outcome (programOf s l) t here) × (here ≡ step (programOf s l) t here)
+  unfolding step outcome
+  step-idle e = rw (eq-eqb _ _ (at-end e)) (refl, refl)
 
   -- the thread is not at its code's end, and the instruction is the one read from the file
   module _ {i : Instruction}
@@ -166,25 +169,16 @@ module _ {s : List ℕ} {l : Layout} {starts counts vs ks : List ℕ} {ths : Lis
     pub access-below-limits : AccessBelow lockLimit variableLimit (accessOf i)
     access-below-limits = access-wider (table .sound .locks) (table .sound .variables) (accessOf i) access-below-counts
 
-    pub entry-waiting : (m w d : ℕ) (ts : List ℕ) → waits (accessOf i) ks ≡ true
-        → runFrom (programOf s l) (record { counts = record { moved = m; waiting = w; idle = d }; state = stateIn l vs ks ths }) (t ∷ ts)
-        ≡ runFrom (programOf s l) (record { counts = record { moved = m; waiting = w + 1; idle = d }; state = stateIn l vs ks ths }) ts
-    entry-waiting m w d ts e =
-        runFrom-waiting (programOf s l) t _ ts (not-at-end n)
-        (rw instruction-is (waits-first (l .locks) (l .variables) (accessOf i) ks access-below-counts ∙ e))
+    -- "TAKE of a lock that is not free: waiting", "otherwise the thread moves"
+    outcome-is : outcome (programOf s l) t here ≡ choose (waits (accessOf i) ks) Waiting Moved
+    unfolding outcome
+    outcome-is = rw (ne-eqb _ _ (not-at-end n), instruction-is, waits-first (l .locks) (l .variables) (accessOf i) ks access-below-counts)
 
-    pub entry-moved : (m w d : ℕ) (ts : List ℕ) → waits (accessOf i) ks ≡ false
-        → runFrom (programOf s l) (record { counts = record { moved = m; waiting = w; idle = d }; state = stateIn l vs ks ths }) (t ∷ ts)
-        ≡ runFrom (programOf s l) (record {
-          counts = record { moved = m + 1; waiting = w; idle = d };
-          state = stateIn l (variablesAfter (accessOf i) (getD ths t nobody .registers) vs) (locksAfter (accessOf i) t ks)
-              (set ths t (threadAfter i (valueRead (accessOf i) vs) (getD ths t nobody)));
-        }) ts
+    move-is : moveBy (instructionOf (programOf s l) t here) t here
+        ≡ stateIn l (variablesAfter (accessOf i) (getD ths t nobody .registers) vs) (locksAfter (accessOf i) t ks) (moveThread i vs t ths)
     unfolding moveBy
-    entry-moved m w d ts e =
-        runFrom-moved (programOf s l) t _ ts (not-at-end n)
-        (rw instruction-is (waits-first (l .locks) (l .variables) (accessOf i) ks access-below-counts ∙ e))
-        ∙ rw (
+    move-is =
+        rw (
           instruction-is,
           thread-first,
           value-first (l .locks) (l .variables) (accessOf i) vs access-below-counts,
@@ -213,8 +207,7 @@ module _ {s : List ℕ} {l : Layout} {starts counts vs ks : List ℕ} {ths : Lis
         getD-set-holds (λ _ (th : Thread). length (th .registers) ≡ registerCount) ths t (threadAfter i x (getD ths t nobody)) nobody
         (length-registers-after i x (getD ths t nobody .registers) ∙ kept .registers t (omega (arith, table .sound .threads))) u (kept .registers u k)
 
-    pub kept-moved : Kept l counts (variablesAfter (accessOf i) (getD ths t nobody .registers) vs) (locksAfter (accessOf i) t ks)
-        (set ths t (threadAfter i (valueRead (accessOf i) vs) (getD ths t nobody)))
+    kept-moved : Kept l counts (variablesAfter (accessOf i) (getD ths t nobody .registers) vs) (locksAfter (accessOf i) t ks) (moveThread i vs t ths)
     kept-moved = let x = valueRead (accessOf i) vs in record {
       variables = length-variables-after (accessOf i) (getD ths t nobody .registers) vs ∙ kept .variables;
       locks = length-locks-after (accessOf i) t ks ∙ kept .locks;
@@ -222,3 +215,22 @@ module _ {s : List ℕ} {l : Layout} {starts counts vs ks : List ℕ} {ths : Lis
       places = places-after x;
       registers = registers-after x;
     }
+
+    -- the step, and what it keeps
+    abbrev Steps : Outcome → (vs′ ks′ : List ℕ) → List Thread → Type 0
+    Steps o vs′ ks′ ths′ = (o ≡ outcome (programOf s l) t here) × (stateIn l vs′ ks′ ths′ ≡ step (programOf s l) t here) × Kept l counts vs′ ks′ ths′
+
+    steps : (o : Outcome) → outcome (programOf s l) t here ≡ o
+        → Steps o (after o vs (variablesAfter (accessOf i) (getD ths t nobody .registers) vs)) (after o ks (locksAfter (accessOf i) t ks))
+        (after o ths (moveThread i vs t ths))
+    unfolding step
+    steps Moved e = (sym e, rw e (sym move-is), kept-moved)
+    steps Waiting e = (sym e, rw e, kept)
+    steps Idle e = (sym e, rw e, kept)
+
+    pub stepped : {o : Outcome} {vs′ ks′ : List ℕ} {ths′ : List Thread} → o ≡ choose (waits (accessOf i) ks) Waiting Moved
+        → vs′ ≡ after o vs (variablesAfter (accessOf i) (getD ths t nobody .registers) vs)
+        → ks′ ≡ after o ks (locksAfter (accessOf i) t ks)
+        → ths′ ≡ after o ths (moveThread i vs t ths)
+        → Steps o vs′ ks′ ths′
+    stepped {o} e p q r = rw (p, q, r) (steps o (outcome-is ∙ sym e))

@@ -1,9 +1,10 @@
 -- Laws that belong to no one function.
 --     Definitions  the definitions of running open
---     Outcome      one entry of the list, from the tests that decide it; every entry is counted once
+--     Outcome      every entry is counted once
 --     Block        where a thread stands inside a block
 --     Fields       what a sound file's instruction reaches, and where it goes
 --     Kept         the state in arrays, through one entry
+--     Threads      threads in two arrays
 --     Effect       what an instruction does, as the code says it
 --     Between      the loop over the entries of a list
 --     Start        the initial values, as a loop finds them; the start in arrays
@@ -14,6 +15,7 @@ pub mod Outcome
 pub mod Block
 pub mod Fields
 pub mod Kept
+pub mod Threads
 pub mod Effect
 pub mod Between
 pub mod Start

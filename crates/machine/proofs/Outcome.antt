@@ -1,8 +1,6 @@
--- One entry of a list, from the tests that decide it. Assumes nothing.
---     runFrom-idle      at the code's end
---     runFrom-waiting   at a lock that is not free
---     runFrom-moved     otherwise
---     run-sum           "their sum is the list's length"
+-- Every entry is counted once. Assumes nothing.
+--     counted-once   by its outcome
+--     run-sum        "their sum is the list's length"
 use Prim.Native.Nat.{ℕ, _+_}
 use mathlib.Core.Path.{_≡_, _∙_}
 use mathlib.Core.Bool.{true, false}
@@ -19,31 +17,10 @@ use Rattle.machine.specs.declared.run.Counts.{Counts}
 use Rattle.machine.specs.declared.thread.Outcome.{Outcome}
 use Rattle.machine.specs.declared.thread.Outcome.the-variants.{Moved, Waiting, Idle}
 
-module _ (p : Program) (t : ℕ) (r : Run) (ts : List ℕ) where
-  pub runFrom-idle : threadOf (r .state) t .place ≡ length (codeOf p t)
-      → runFrom p r (t ∷ ts) ≡ runFrom p (record { counts = counted Idle (r .counts); state = r .state }) ts
-  unfolding runFrom step outcome
-  runFrom-idle e = rw (eq-eqb _ _ e)
-
-  pub runFrom-waiting : (threadOf (r .state) t .place ≡ length (codeOf p t) → ⊥)
-      → waits (accessOf (instructionOf p t (r .state))) (r .state .locks) ≡ true
-      → runFrom p r (t ∷ ts) ≡ runFrom p (record { counts = counted Waiting (r .counts); state = r .state }) ts
-  unfolding runFrom step outcome
-  runFrom-waiting e w = rw (ne-eqb _ _ e, w)
-
-  pub runFrom-moved : (threadOf (r .state) t .place ≡ length (codeOf p t) → ⊥)
-      → waits (accessOf (instructionOf p t (r .state))) (r .state .locks) ≡ false
-      → runFrom p r (t ∷ ts)
-      ≡ runFrom p (record { counts = counted Moved (r .counts); state = moveBy (instructionOf p t (r .state)) t (r .state) }) ts
-  unfolding runFrom step outcome
-  runFrom-moved e w = rw (ne-eqb _ _ e, w)
-
--- every entry is counted once
-total : Counts → ℕ
+abbrev pub total : Counts → ℕ
 total c = c .moved + c .waiting + c .idle
 
-counted-once : (o : Outcome) (c : Counts) → total (counted o c) ≡ total c + 1
-unfolding total
+pub counted-once : (o : Outcome) (c : Counts) → total (counted o c) ≡ total c + 1
 counted-once Moved c = omega arith
 counted-once Waiting c = omega arith
 counted-once Idle c = omega arith
@@ -54,5 +31,5 @@ from-sum p r [] = omega arith
 from-sum p r (t ∷ ts) = from-sum p _ ts ∙ rw (counted-once (outcome p t (r .state)) (r .counts)) (omega arith)
 
 pub run-sum : (p : Program) (ts : List ℕ) → let c = run p ts .counts in c .moved + c .waiting + c .idle ≡ length ts
-unfolding run total
+unfolding run
 run-sum p ts = from-sum p _ ts ∙ omega arith

@@ -2,7 +2,9 @@
 use program::instruction::Instruction;
 use program::limits::REGISTER_COUNT;
 ghost use mathlib.Core.Path.{_≡_};
-ghost use Prim.Native.Nat.{_+_, _-_, _%_, _^_, _≤_};
+ghost use mathlib.Core.List.{[]};
+ghost use Prim.Native.Nat.{_+_, _-_, _%_, _^_, _≤_, _<_};
+ghost use lib.ListN.{length, getD};
 ghost use lib.Dec.{ltb, eqb};
 ghost use Rattle.program.specs.Choice.{choose};
 ghost use Rattle.program.specs.Limits.{lockLimit, variableLimit};
@@ -70,24 +72,24 @@ fn back(place: usize, n: u16) -> usize
     0
 }
 
-// What an instruction does at a place, with these registers.
-pub fn move_of(i: Instruction, r: [u32; REGISTER_COUNT], place: usize) -> Move
-    requires { ⌜ FieldsGood lockLimit variableLimit i × (place ≤ largestPlace) ⌝ }
-    ensures { λ m. ⌜ Does i r place m ⌝ }
+// What an instruction does at a place, with the registers of thread t.
+pub fn move_of(i: Instruction, r: &[[u32; REGISTER_COUNT]], t: usize, place: usize) -> Move
+    requires { ⌜ FieldsGood lockLimit variableLimit i × (place ≤ largestPlace) × (t < length (now r)) ⌝ }
+    ensures { λ m. ⌜ Does i (getD (now (r .entry)) t []) place m ⌝ }
 {
     match i {
         Instruction::Set(a, n) => Move::Sets(a, n as u32),
-        Instruction::Copy(a, b) => Move::Sets(a, r[b as usize]),
-        Instruction::Add(a, b, c) => Move::Sets(a, sum(r[b as usize], r[c as usize])),
-        Instruction::Sub(a, b, c) => Move::Sets(a, difference(r[b as usize], r[c as usize])),
-        Instruction::Less(a, b, c) => Move::Sets(a, less(r[b as usize], r[c as usize])),
+        Instruction::Copy(a, b) => Move::Sets(a, r[t][b as usize]),
+        Instruction::Add(a, b, c) => Move::Sets(a, sum(r[t][b as usize], r[t][c as usize])),
+        Instruction::Sub(a, b, c) => Move::Sets(a, difference(r[t][b as usize], r[t][c as usize])),
+        Instruction::Less(a, b, c) => Move::Sets(a, less(r[t][b as usize], r[t][c as usize])),
         Instruction::Read(a, v) => Move::Reads(a, v),
-        Instruction::Write(a, v) => Move::Writes(v, r[a as usize]),
+        Instruction::Write(a, v) => Move::Writes(v, r[t][a as usize]),
         Instruction::Take(k) => Move::Takes(k),
         Instruction::Give(k) => Move::Gives(k),
-        Instruction::If(a, n) => branch(r[a as usize], n, place),
+        Instruction::If(a, n) => branch(r[t][a as usize], n, place),
         Instruction::Else(n) => Move::Goes(place + n as usize),
-        Instruction::While(a, n) => branch(r[a as usize], n, place),
+        Instruction::While(a, n) => branch(r[t][a as usize], n, place),
         Instruction::Again(n) => Move::Goes(back(place, n)),
         Instruction::Atomic(_) => Move::Passes,
         Instruction::End => Move::Passes,

@@ -3,8 +3,8 @@ use crate::moves::Move;
 use crate::moves::move_of;
 use crate::prepare::initial_values;
 use crate::state_bytes::write_state;
-use crate::thread::Thread;
-use crate::thread::stored;
+use crate::thread::Outcome;
+use program::instruction::Instruction;
 use program::instruction::instruction_at;
 use program::layout::Layout;
 use program::limits::CODE_LIMIT;
@@ -14,16 +14,22 @@ use program::limits::REGISTER_COUNT;
 use program::limits::THREAD_LIMIT;
 use program::limits::VARIABLE_LIMIT;
 ghost use mathlib.Core.Path.{_≡_};
-ghost use mathlib.Core.List.{_++_};
-ghost use Prim.Native.Nat.{_≤_};
-ghost use lib.ListN.{length, drop};
+ghost use mathlib.Core.List.{[], _++_};
+ghost use Prim.Native.Nat.{_≤_, _<_};
+ghost use lib.ListN.{length, getD, drop};
+ghost use Rattle.program.specs.Choice.{choose};
+ghost use Rattle.program.specs.View.{accessOf};
 ghost use Rattle.program.specs.Layout.{programOf};
-ghost use Rattle.program.specs.Limits.{lockLimit, variableLimit, sizeOfState};
+ghost use Rattle.program.specs.Limits.{lockLimit, threadLimit, variableLimit, sizeOfState};
+ghost use Rattle.program.specs.Internal.Bounds.{largestPlace};
 ghost use Rattle.program.specs.Internal.Rows.{rowTable};
 ghost use Rattle.program.specs.Internal.Sections.{SectionTable};
+ghost use Rattle.program.specs.Internal.Sound.{FieldsGood};
 ghost use Rattle.machine.specs.State.{stateBytes};
+ghost use Rattle.machine.specs.Step.{waits, variablesAfter, locksAfter, after, outcome};
+ghost use Rattle.machine.specs.Step as Step;
 ghost use Rattle.machine.specs.Run.{Entries, runFrom, run};
-ghost use Rattle.machine.specs.Internal.Kept.{Kept, fromHere, finalIn};
+ghost use Rattle.machine.specs.Internal.Kept.{Kept, stateIn, threadsIn, fromHere, moveThread};
 
 // How many entries moved, waited and were idle.
 pub struct Counts {
@@ -32,14 +38,71 @@ pub struct Counts {
     pub idle: usize,
 }
 
-// What a list leaves beside the variables and the locks.
-pub struct Final {
-    pub counts: Counts,
-    pub threads: [Thread; THREAD_LIMIT],
+// The instruction at a thread's place: it waits, or the thread moves.
+fn move_by(
+    i: Instruction,
+    t: u8,
+    variables: &mut [u32; VARIABLE_LIMIT],
+    locks: &mut [u8; LOCK_LIMIT],
+    places: &mut [usize; THREAD_LIMIT],
+    registers: &mut [[u32; REGISTER_COUNT]; THREAD_LIMIT],
+) -> Outcome
+    requires { ⌜ FieldsGood lockLimit variableLimit i × (t < threadLimit) × (length (threadsIn (now places) (now registers)) ≡ threadLimit) × (getD (now places) t 0 ≤ largestPlace) ⌝ }
+    ensures { λ o. ⌜ o ≡ choose (waits (accessOf i) (now (locks .entry))) Outcome.Waiting Outcome.Moved ⌝ }
+    ensures { λ o. ⌜ now (variables .exit) ≡ after o (now (variables .entry)) (variablesAfter (accessOf i) (getD (now (registers .entry)) t []) (now (variables .entry))) ⌝ }
+    ensures { λ o. ⌜ now (locks .exit) ≡ after o (now (locks .entry)) (locksAfter (accessOf i) t (now (locks .entry))) ⌝ }
+    ensures { λ o. ⌜ threadsIn (now (places .exit)) (now (registers .exit)) ≡ after o (threadsIn (now (places .entry)) (now (registers .entry))) (moveThread i (now (variables .entry)) t (threadsIn (now (places .entry)) (now (registers .entry)))) ⌝ }
+{
+    let at = t as usize;
+    let place = places[at];
+    let mut next = place + 1;
+    match move_of(i, registers, at, place) {
+        Move::Sets(a, x) => registers[at][a as usize] = x,
+        Move::Reads(a, v) => registers[at][a as usize] = variables[v as usize],
+        Move::Writes(v, x) => variables[v as usize] = x,
+        Move::Takes(k) => {
+            let n = k as usize;
+            if locks[n] != 0 {
+                return Outcome::Waiting;
+            }
+            locks[n] = t + 1;
+        }
+        Move::Gives(k) => locks[k as usize] = 0,
+        Move::Goes(there) => next = there,
+        Move::Passes => {}
+    }
+    places[at] = next;
+    Outcome::Moved
 }
 
-// The entries of a list, one after the other. The layout is there for the contract: a sound file's instructions are valid, so the loop
-// reads them without its counts.
+// One entry of a list. The layout is there for the contract: a sound file's instructions are valid, so they are read without its counts.
+fn step(
+    rows: &[u8],
+    s: &[u8],
+    l: Layout,
+    starts: &[usize; CODE_LIMIT],
+    counts: &[usize; CODE_LIMIT],
+    t: u8,
+    variables: &mut [u32; VARIABLE_LIMIT],
+    locks: &mut [u8; LOCK_LIMIT],
+    places: &mut [usize; THREAD_LIMIT],
+    registers: &mut [[u32; REGISTER_COUNT]; THREAD_LIMIT],
+) -> Outcome
+    requires { ⌜ (now rows ≡ rowTable) × SectionTable (now s) l (now starts) (now counts) × (t < l .threads) × Kept l (now counts) (now variables) (now locks) (threadsIn (now places) (now registers)) ⌝ }
+    ensures { λ o. ⌜ o ≡ outcome (programOf (now (s .entry)) l) t (stateIn l (now (variables .entry)) (now (locks .entry)) (threadsIn (now (places .entry)) (now (registers .entry)))) ⌝ }
+    ensures { λ o. ⌜ stateIn l (now (variables .exit)) (now (locks .exit)) (threadsIn (now (places .exit)) (now (registers .exit))) ≡ Step.step (programOf (now (s .entry)) l) t (stateIn l (now (variables .entry)) (now (locks .entry)) (threadsIn (now (places .entry)) (now (registers .entry)))) ⌝ }
+    ensures { λ o. ⌜ Kept l (now (counts .entry)) (now (variables .exit)) (now (locks .exit)) (threadsIn (now (places .exit)) (now (registers .exit))) ⌝ }
+{
+    let at = t as usize;
+    let place = places[at];
+    if place == counts[at] {
+        return Outcome::Idle;
+    }
+    let i = instruction_at(rows, s, starts[at] + INSTRUCTION_SIZE * place);
+    move_by(i, t, variables, locks, places, registers)
+}
+
+// The entries of a list, one after the other.
 fn entries(
     rows: &[u8],
     s: &[u8],
@@ -49,64 +112,41 @@ fn entries(
     list: &[u8],
     variables: &mut [u32; VARIABLE_LIMIT],
     locks: &mut [u8; LOCK_LIMIT],
-) -> Final
-    requires { ⌜ (now rows ≡ rowTable) × SectionTable (now s) l (now starts) (now counts) × Entries (l .threads) (now list) × (length (now variables) ≡ variableLimit) × (length (now locks) ≡ lockLimit) ⌝ }
-    ensures { λ r. ⌜ runFrom (programOf (now (s .entry)) l) (fromHere l (now (variables .entry)) (now (locks .entry))) (now (list .entry)) ≡ finalIn l r (now (variables .exit)) (now (locks .exit)) ⌝ }
-    ensures { λ r. ⌜ Kept l (now (counts .entry)) (now (variables .exit)) (now (locks .exit)) (r .threads) ⌝ }
+    places: &mut [usize; THREAD_LIMIT],
+    registers: &mut [[u32; REGISTER_COUNT]; THREAD_LIMIT],
+) -> Counts
+    requires { ⌜ (now rows ≡ rowTable) × SectionTable (now s) l (now starts) (now counts) × Entries (l .threads) (now list) × Kept l (now counts) (now variables) (now locks) (threadsIn (now places) (now registers)) ⌝ }
+    ensures { λ r. ⌜ runFrom (programOf (now (s .entry)) l) (fromHere l (now (variables .entry)) (now (locks .entry)) (threadsIn (now (places .entry)) (now (registers .entry)))) (now (list .entry)) ≡ record { counts = r; state = stateIn l (now (variables .exit)) (now (locks .exit)) (threadsIn (now (places .exit)) (now (registers .exit))) } ⌝ }
+    ensures { λ r. ⌜ Kept l (now (counts .entry)) (now (variables .exit)) (now (locks .exit)) (threadsIn (now (places .exit)) (now (registers .exit))) ⌝ }
 {
-    let start = Thread {
-        place: 0,
-        registers: [0; REGISTER_COUNT],
-    };
-    let mut threads = [start; THREAD_LIMIT];
     let mut waiting: usize = 0;
     let mut idle: usize = 0;
     let mut i: usize = 0;
     while i < list.len() {
         let t = list[i];
         i += 1;
-        let at = t as usize;
-        let th = threads[at];
-        let place = th.place;
-        if place == counts[at] {
-            idle += 1;
-        } else {
-            let r = th.registers;
-            let next = place + 1;
-            let ins = instruction_at(rows, s, starts[at] + INSTRUCTION_SIZE * place);
-            match move_of(ins, r, place) {
-                Move::Sets(a, x) => threads[at] = stored(th, a, x),
-                Move::Reads(a, v) => threads[at] = stored(th, a, variables[v as usize]),
-                Move::Writes(v, x) => {
-                    variables[v as usize] = x;
-                    threads[at].place = next;
-                }
-                Move::Takes(k) => {
-                    let n = k as usize;
-                    if locks[n] == 0 {
-                        locks[n] = t + 1;
-                        threads[at].place = next;
-                    } else {
-                        waiting += 1;
-                    }
-                }
-                Move::Gives(k) => {
-                    locks[k as usize] = 0;
-                    threads[at].place = next;
-                }
-                Move::Goes(there) => threads[at].place = there,
-                Move::Passes => threads[at].place = next,
-            }
+        match step(
+            rows,
+            s,
+            l,
+            starts,
+            counts,
+            t,
+            variables,
+            locks,
+            places,
+            registers,
+        ) {
+            Outcome::Moved => {}
+            Outcome::Waiting => waiting += 1,
+            Outcome::Idle => idle += 1,
         }
     }
     let moved = list.len() - waiting - idle;
-    Final {
-        counts: Counts {
-            moved: moved,
-            waiting: waiting,
-            idle: idle,
-        },
-        threads: threads,
+    Counts {
+        moved: moved,
+        waiting: waiting,
+        idle: idle,
     }
 }
 
@@ -127,8 +167,20 @@ pub fn run_list(
     let mut variables = [0u32; VARIABLE_LIMIT];
     let mut locks = [0u8; LOCK_LIMIT];
     initial_values(s, l, &mut variables);
-    let ran = entries(rows, s, l, starts, counts, list, &mut variables, &mut locks);
-    let threads = ran.threads;
-    write_state(out, l, &variables, &locks, threads);
-    ran.counts
+    let mut places = [0usize; THREAD_LIMIT];
+    let mut registers = [[0u32; REGISTER_COUNT]; THREAD_LIMIT];
+    let ran = entries(
+        rows,
+        s,
+        l,
+        starts,
+        counts,
+        list,
+        &mut variables,
+        &mut locks,
+        &mut places,
+        &mut registers,
+    );
+    write_state(out, l, &variables, &locks, &places, &registers);
+    ran
 }

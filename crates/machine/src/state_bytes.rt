@@ -11,7 +11,7 @@ ghost use Prim.Native.Nat.{_+_, _*_, _≤_};
 ghost use lib.ListN.{length, take};
 ghost use lib.Seq.{sets};
 ghost use Rattle.program.specs.Limits.{threadLimit, registerCount, wordSize, threadSize, sizeOfState};
-ghost use Rattle.machine.specs.Internal.Kept.{stateIn, EightRegisters};
+ghost use Rattle.machine.specs.Internal.Kept.{stateIn, threadsIn, EightRegisters};
 ghost use Rattle.machine.specs.State.{pairBytes, wordBytes, threadBytes, stateBytes};
 
 // A number of two bytes.
@@ -69,13 +69,23 @@ fn write_thread(out: &mut [u8], at: usize, th: Thread)
 }
 
 // The first n threads.
-fn write_threads(out: &mut [u8], at: usize, n: usize, threads: [Thread; THREAD_LIMIT])
-    requires { ⌜ (at + threadSize * n ≤ length (now out)) × (n ≤ threadLimit) × EightRegisters threads ⌝ }
-    ensures { λ r. ⌜ now (out .exit) ≡ sets (now (out .entry)) at (flatMap threadBytes (take n threads)) ⌝ }
+fn write_threads(
+    out: &mut [u8],
+    at: usize,
+    n: usize,
+    places: &[usize; THREAD_LIMIT],
+    registers: &[[u32; REGISTER_COUNT]; THREAD_LIMIT],
+)
+    requires { ⌜ (at + threadSize * n ≤ length (now out)) × (n ≤ threadLimit) × (length (threadsIn (now places) (now registers)) ≡ threadLimit) × EightRegisters (threadsIn (now places) (now registers)) ⌝ }
+    ensures { λ r. ⌜ now (out .exit) ≡ sets (now (out .entry)) at (flatMap threadBytes (take n (threadsIn (now (places .entry)) (now (registers .entry))))) ⌝ }
 {
     let mut i: usize = 0;
     while i < n {
-        write_thread(out, at + THREAD_SIZE * i, threads[i]);
+        let th = Thread {
+            place: places[i],
+            registers: registers[i],
+        };
+        write_thread(out, at + THREAD_SIZE * i, th);
         i += 1;
     }
 }
@@ -86,15 +96,16 @@ pub fn write_state(
     l: Layout,
     variables: &[u32],
     locks: &[u8],
-    threads: [Thread; THREAD_LIMIT],
+    places: &[usize; THREAD_LIMIT],
+    registers: &[[u32; REGISTER_COUNT]; THREAD_LIMIT],
 )
     requires { ⌜ sizeOfState (l .variables) (l .locks) (l .threads) ≤ length (now out) ⌝ }
-    requires { ⌜ (l .variables ≤ length (now variables)) × (l .locks ≤ length (now locks)) × (l .threads ≤ threadLimit) × EightRegisters threads ⌝ }
-    ensures { λ r. ⌜ now (out .exit) ≡ sets (now (out .entry)) 0 (stateBytes (stateIn l (now (variables .entry)) (now (locks .entry)) threads)) ⌝ }
+    requires { ⌜ (l .variables ≤ length (now variables)) × (l .locks ≤ length (now locks)) × (l .threads ≤ threadLimit) × (length (threadsIn (now places) (now registers)) ≡ threadLimit) × EightRegisters (threadsIn (now places) (now registers)) ⌝ }
+    ensures { λ r. ⌜ now (out .exit) ≡ sets (now (out .entry)) 0 (stateBytes (stateIn l (now (variables .entry)) (now (locks .entry)) (threadsIn (now (places .entry)) (now (registers .entry))))) ⌝ }
 {
     let past_variables = WORD_SIZE * l.variables;
     let past_locks = past_variables + l.locks;
     write_words(out, 0, l.variables, variables);
     write_bytes(out, past_variables, l.locks, locks);
-    write_threads(out, past_locks, l.threads, threads);
+    write_threads(out, past_locks, l.threads, places, registers);
 }

@@ -1,20 +1,29 @@
 -- The state as `run_list` keeps it: in arrays of the largest size, of which the first elements count.
+--     threadsIn         threads, of their places and their registers
 --     stateIn           the state in arrays
---     fromHere          the variables and locks of some moment, every thread at its start, nothing counted
---     finalIn           what is left and counted
+--     fromHere          ... with nothing counted
 --     nobody            what is read where there is no thread
+--     moveThread        one thread moves
 --     EightRegisters    each thread has eight registers
 --     Kept              what holds between two entries
 use Prim.Native.Nat.{ℕ, _≤_, _<_}
 use mathlib.Core.Path.{_≡_}
-use mathlib.Core.List.{List, []}
-use lib.ListN.{length, getD, take, replicate}
+use mathlib.Core.List.{List, [], _∷_}
+use lib.ListN.{length, getD, set, take}
+use Rattle.program.specs.View.{accessOf}
 use Rattle.program.specs.Limits.{lockLimit, threadLimit, variableLimit, registerCount}
 use Rattle.program.specs.declared.layout.Layout.{Layout}
-use Rattle.machine.specs.State.{State, fresh}
+use Rattle.program.specs.declared.instruction.Instruction.{Instruction}
+use Rattle.machine.specs.State.{State}
+use Rattle.machine.specs.Step.{valueRead, threadAfter}
 use Rattle.machine.specs.Run.{Run}
-use Rattle.machine.specs.declared.run.Final.{Final}
 use Rattle.machine.specs.declared.thread.Thread.{Thread}
+
+-- threads, of their places and their registers
+unfoldable pub threadsIn : List ℕ → List (List ℕ) → List Thread
+threadsIn [] registers = []
+threadsIn (p ∷ places) [] = []
+threadsIn (p ∷ places) (r ∷ registers) = record { place = p; registers = r } ∷ threadsIn places registers
 
 -- the state in arrays
 abbrev pub stateIn : Layout → (variables locks : List ℕ) → List Thread → State
@@ -24,17 +33,17 @@ stateIn l variables locks threads = record {
   threads = take (l .threads) threads;
 }
 
--- the variables and locks of some moment, every thread at its start, nothing counted
-abbrev pub fromHere : Layout → (variables locks : List ℕ) → Run
-fromHere l variables locks = record { counts = record { moved = 0; waiting = 0; idle = 0 }; state = stateIn l variables locks (replicate threadLimit fresh) }
-
--- what is left and counted
-abbrev pub finalIn : Layout → Final → (variables locks : List ℕ) → Run
-finalIn l r variables locks = record { counts = r .counts; state = stateIn l variables locks (r .threads) }
+-- the state in arrays, nothing counted
+abbrev pub fromHere : Layout → (variables locks : List ℕ) → List Thread → Run
+fromHere l variables locks threads = record { counts = record { moved = 0; waiting = 0; idle = 0 }; state = stateIn l variables locks threads }
 
 -- what a read of an array of threads gives where there is none
 abbrev pub nobody : Thread
 nobody = record { place = 0; registers = [] }
+
+-- one thread moves by an instruction, where the variables are these
+abbrev pub moveThread : Instruction → (variables : List ℕ) (t : ℕ) → List Thread → List Thread
+moveThread i variables t threads = set threads t (threadAfter i (valueRead (accessOf i) variables) (getD threads t nobody))
 
 -- each of the eight threads has eight registers
 unfoldable pub EightRegisters : List Thread → Type 0

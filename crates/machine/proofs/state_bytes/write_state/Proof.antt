@@ -2,7 +2,7 @@
 use Prim.Native.Nat.{_+_, _*_}
 use mathlib.Core.Path.{_∙_}
 use lib.Seq.{length-take-le}
-use Rattle.machine.specs.Internal.Kept.{stateIn}
+use Rattle.machine.specs.Internal.Kept.{stateIn, threadsIn}
 use Rattle.machine.proofs.StateBytes.{write-state, length-first-words}
 use borrow.Author.Needs.{needs}
 use Rattle.machine.proofs.state_bytes.write_state.Statement.{statement}
@@ -24,7 +24,7 @@ write-words-requires c κs = search needs
 write-bytes-requires : tie.Need-write-bytes-requires
 write-bytes-requires c κs = search needs
 
--- `write_threads(out, past_locks, l.threads, threads)`
+-- `write_threads(out, past_locks, l.threads, places, registers)`
 write-threads-requires : tie.Need-write-threads-requires
 write-threads-requires c κs = search needs
 
@@ -37,7 +37,7 @@ returns c =
     let a = b .args in
     c .before .before .write-threads .ensures
     ∙ rw (c .before .before .before .before .before .before .write-bytes .ensures, c .before .before .before .before .before .before .before .before .before .before .write-words .ensures)
-    (write-state (a .out .now) (stateIn (a .l) (a .variables .now) (a .locks .now) (a .threads)) (4 * a .l .variables) (4 * a .l .variables + a .l .locks)
+    (write-state (a .out .now) (stateIn (a .l) (a .variables .now) (a .locks .now) (threadsIn (a .places .now) (a .registers .now))) (4 * a .l .variables) (4 * a .l .variables + a .l .locks)
     (length-first-words (a .variables .now) (a .l .variables) (b .pre .1 .0)) (rw (length-take-le (a .l .locks) (a .locks .now) (b .pre .1 .1))))
 
 pub write-state-spec : {M : Type 1} → statement M

@@ -12,13 +12,16 @@ use Rattle.machine.proofs.thread.thread_after.Tie as tie
 add-next : tie.Need-add-next
 add-next c = search needs
 
--- `match move_of(i, r, th.place)`
+-- `match move_of(i, &one, 0, th.place)`
+slice-aggregate-move-of : tie.Need-slice-aggregate-move-of
+slice-aggregate-move-of c = search needs
+
 move-of-requires : tie.Need-move-of-requires
 move-of-requires c κs = search needs
 
 -- what the Move says of the instruction, in the arm that knows it
 does : (c : tie.After-move-of) {m : Move} → c .move-of .result ≡ m
-    → let a = c .before .before .before .args in Does (a .i) (a .th .registers) (a .th .place) m
+    → let a = c .before .before .before .before .args in Does (a .i) (a .th .registers) (a .th .place) m
 does c e = rw e at (c .move-of .ensures)
 
 -- `Move::Sets(a, x) => stored(th, a, x)`
@@ -27,7 +30,7 @@ enum-known-a c = search needs
 
 stored-requires : tie.Need-stored-requires
 unfolding Does
-stored-requires c κs = (does (c .before .before .before) (c .before .a .given .1) .1, c .before .before .before .before .before .before .pre .1)
+stored-requires c κs = (does (c .before .before .before) (c .before .a .given .1) .1, c .before .before .before .before .before .before .before .pre .1)
 
 -- `Move::Reads(a, _) => stored(th, a, value)`
 enum-known-a-2 : tie.Need-enum-known-a-2
@@ -35,7 +38,7 @@ enum-known-a-2 c = search needs
 
 stored-requires-2 : tie.Need-stored-requires-2
 unfolding Does
-stored-requires-2 c κs = (does (c .before .before .before) (c .before .a2 .given .1) .1, c .before .before .before .before .before .before .pre .1)
+stored-requires-2 c κs = (does (c .before .before .before) (c .before .a2 .given .1) .1, c .before .before .before .before .before .before .before .pre .1)
 
 -- `Move::Writes(_, _) => at_place(th, next)`
 enum-told : tie.Need-enum-told
@@ -112,6 +115,7 @@ thread-after-spec =
     tie.close
     (tie.spec
     add-next
+    slice-aggregate-move-of
     move-of-requires
     enum-known-a
     stored-requires
