@@ -65,4 +65,4 @@ opened-sound {s} {l} o = sound-file s l (o .opened .reads)
 -- the counts of a sound file are small
 pub counts-small : (s : List ℕ) (l : Layout) → SoundFile s l → (l .threads ≤ threadLimit) × (l .variables ≤ variableLimit) × (l .instructions ≤ programLimit)
 counts-small s l file =
-    omega (arith, file, instructions-few s (l .locks) (l .variables) (l .threads) (recordOffset (l .variables)) (l .instructions) (file .sections))
+    omega (arith, file, instructions-few s l file)

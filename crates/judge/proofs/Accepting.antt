@@ -1,5 +1,4 @@
 -- From the scan of a file's codes to what judging the file answers. Assumes nothing.
---     sections-size         the code sections of a sound file: how many bytes their reports have
 --     read-refused          a file that is not sound is refused with the reader's refusal
 --     accepts-by            a sound file is accepted as its codes are judged
 --     report-length-small   its report fits the buffer that every report fits
@@ -22,25 +21,14 @@ use Rattle.program.proofs.Answer.{Holds, fine-inj, refused-inj, holds-map}
 use Rattle.program.proofs.Contents.{length-instructions}
 use Rattle.program.proofs.Differ.{differ}
 use Rattle.program.proofs.Lists.{sets-front}
-use Rattle.program.proofs.Sound.{sound-file}
+use Rattle.program.proofs.Sound.{sound-file, report-size, report-few}
 use Rattle.judge.specs.Acceptance.{Accepted, accept, sound}
 use Rattle.judge.specs.Internal.Judgement.{AcceptedAs}
 use Rattle.judge.specs.Judging.{judgeCodes, judgeProgram}
 use Rattle.judge.specs.Internal.Nested.{Nested}
 use Rattle.judge.specs.Internal.Scan.{scanCodes}
 use Rattle.judge.proofs.NestedSections.{sections-nested}
-use Rattle.judge.proofs.ScanCodes.{reportSize, codes-agree, codes-size}
-
-module _ (s : List ℕ) (locks variables : ℕ) where
-  -- a byte for each instruction and each thread
-  sections-size : (n at m : ℕ) → SoundSections s locks variables n at m
-      → (reportSize (codesAt locks variables s n at) ≡ m + n) × (m ≤ instructionLimit * n)
-  unfolding codesAt
-  sections-size zero at m x = omega arith
-  sections-size (suc n) at m x =
-      let rest = sections-size n (at + 2 + 4 * countAt s at) (x .0) (x .3) in
-      let k = length-instructions locks variables s (countAt s at) (at + 2) in
-      omega (arith, x .2, x .1 .few)
+use Rattle.judge.proofs.ScanCodes.{codes-agree, codes-size}
 
 -- a file that is not sound is refused with the reader's refusal
 pub read-refused : (s : List ℕ) (r : Refusal) → reading s ≡ refused r → accept s ≡ refused r
@@ -64,6 +52,10 @@ module _ (s : List ℕ) (l : Layout) (e : reading s ≡ fine l) where
   unfolding programOf
   nested = sections-nested s (l .locks) (l .variables) (l .threads) (recordOffset (l .variables)) (l .instructions) (sound-file s l e .sections)
 
+  -- it fits the buffer that every report fits
+  pub report-length-small : l .instructions + l .threads ≤ reportLimit
+  report-length-small = report-few s l (sound-file s l e)
+
   -- the report's length
   abbrev Sized : List ℕ → Type 0
   Sized bytes = (length bytes ≡ l .instructions + l .threads) × (length bytes ≤ reportLimit)
@@ -71,17 +63,8 @@ module _ (s : List ℕ) (l : Layout) (e : reading s ≡ fine l) where
   report-length : Holds Sized judgedCodes
   unfolding programOf
   report-length =
-      let file = sound-file s l e in
-      let n = sections-size s (l .locks) (l .variables) (l .threads) (recordOffset (l .variables)) (l .instructions) (file .sections) in
       holds-map _ Sized judgedCodes (codes-size (programOf s l) 0 (programOf s l .codes) nested)
-      (λ bytes m. omega (arith, n, file .threads))
-
-  -- it fits the buffer that every report fits
-  pub report-length-small : l .instructions + l .threads ≤ reportLimit
-  report-length-small =
-      let file = sound-file s l e in
-      let n = sections-size s (l .locks) (l .variables) (l .threads) (recordOffset (l .variables)) (l .instructions) (file .sections) in
-      omega (arith, n, file .threads)
+      (λ bytes m. omega (arith, report-size s l (sound-file s l e), report-length-small))
 
   module _ (starts counts : List ℕ) (table : SectionTable s l starts counts) (report : List ℕ) where
     pub file-refused : (r : Refusal) → refused r ≡ scanCodes (programOf s l) 0 0 report (programOf s l .codes) → accept s ≡ refused r

@@ -21,7 +21,8 @@ use Rattle.program.specs.Internal.Sections.{Located, SectionTable, noSection, b
 use Rattle.program.specs.declared.layout.Layout.{Layout}
 use Rattle.program.specs.declared.refusal.Refusal.{Refusal}
 use Rattle.program.proofs.Contents.{length-codes, length-instructions}
-use Rattle.program.proofs.SectionTable.{bytes-one-more, report-inside, report-few}
+use Rattle.program.proofs.SectionTable.{bytes-one-more, report-inside}
+use Rattle.program.proofs.Sound.{report-few}
 use Rattle.judge.specs.Internal.Scan.{scanCode, scanCodes}
 
 module _ (s : List ℕ) (l : Layout) (starts counts : List ℕ) (table : SectionTable s l starts counts) (report₀ : List ℕ) where
@@ -54,7 +55,7 @@ module _ (s : List ℕ) (l : Layout) (starts counts : List ℕ) (table : Section
       walking-located = table .located number more
 
       pub report-inside-limit : first + getD counts number 0 < reportLimit
-      report-inside-limit = omega (arith, x .index, report-inside table number more, report-few table)
+      report-inside-limit = omega (arith, x .index, report-inside table number more, report-few _ _ (table .sound))
 
       -- scanning the code and then the rest is the whole scan
       code-then-rest : (scanCode (programOf s l) number first report (sectionOf number)

@@ -2,8 +2,7 @@
 --     code-size       a code's report has a byte for each instruction, and one for the whole
 --     code-agrees     one code
 --     codes-agree     the codes of sections that are well nested
---     reportSize, codes-size
---                     how many bytes their reports have
+--     codes-size      how many bytes their reports have
 use Prim.Native.Nat.{ℕ, suc, _+_, _*_}
 use mathlib.Core.Path.{_≡_, refl, sym, _∙_, ap}
 use mathlib.Core.List.{List, [], _∷_, append-nil}
@@ -17,6 +16,7 @@ use Rattle.atomicity.proofs.Laws.{both-then}
 use Rattle.program.specs.Answer.{Answer, fine, _>>=_}
 use Rattle.program.specs.Code.{size, structured}
 use Rattle.program.specs.Layout.{Program, CodeSection}
+use Rattle.program.specs.Internal.Sound.{reportSize}
 use Rattle.program.specs.Internal.WellFormed.{flat, Writes}
 use Rattle.program.specs.declared.instruction.Instruction.{Instruction}
 use Rattle.program.specs.declared.refusal.Refusal.the-variants.{SetsDiffer}
@@ -33,11 +33,6 @@ use Rattle.judge.proofs.Scanning.{report-size, scan-agrees}
 -- the size of the code that instructions write out
 size-of : (section : CodeSection) → Writes (section .code) (structured (section .code)) → size (structured (section .code)) ≡ length (section .code)
 size-of section w = sym (length-flat (structured (section .code))) ∙ ap (λ (is : List Instruction). length is) (w .flat-is)
-
--- how many bytes the sections' reports have
-abbrev pub reportSize : List CodeSection → ℕ
-reportSize [] = 0
-reportSize (section ∷ sections) = length (section .code) + 1 + reportSize sections
 
 module _ (p : Program) where
   -- a byte for each instruction, and one for the whole
@@ -93,7 +88,7 @@ module _ (p : Program) where
 
   pub codes-size : (t : ℕ) (sections : List CodeSection) → Nested sections
       → Holds (λ (bytes : List ℕ). length bytes ≡ reportSize sections) (judgeCodes p t sections)
-  unfolding judgeCodes Nested
+  unfolding judgeCodes Nested reportSize
   codes-size t [] w = refl
   codes-size t (section ∷ sections) w =
       bind-holds _ _ (judgeCode p t section) _ (code-size t section (nested-flat (section .code) (w .0))) (λ bytes n.

@@ -7,8 +7,7 @@
 --                            the lines from one code's on are those of the codes from it on
 --     section-thread, section-code, whole-thread
 --                            a thread's line, an instruction's, a whole's
---     reportSize, report-size
---                            how many lines, and report bytes, the codes have
+--     length-section-lines   how many lines, and report bytes, the codes have
 -- The lines after the variables', by the table of sections:
 --     item-thread, item-code, item-whole
 --                            a thread's, an instruction's, a whole's
@@ -29,12 +28,13 @@ use Rattle.program.specs.Layout.{CodeSection, codesAt, variablesAt, programOf}
 use Rattle.program.specs.Limits.{recordsStart, recordOffset}
 use Rattle.program.specs.Internal.Bounds.{lineCount}
 use Rattle.program.specs.Internal.Sections.{SectionTable, noSection, bytesBefore}
-use Rattle.program.specs.Internal.Sound.{SoundSections, SoundFile, countAt}
+use Rattle.program.specs.Internal.Sound.{SoundFile, reportSize}
 use Rattle.program.specs.Variable.{Variable, variableAt}
 use Rattle.program.specs.declared.instruction.Instruction.{Instruction}
 use Rattle.program.specs.declared.instruction.Instruction.the-variants.{End}
 use Rattle.program.specs.declared.layout.Layout.{Layout}
 use Rattle.program.proofs.SectionTable.{report-inside}
+use Rattle.program.proofs.Sound.{report-size}
 use Rattle.program.proofs.Contents.{length-instructions, getD-instructions, length-variables, getD-variables, length-codes}
 use Rattle.printout.specs.Line.{instructionLine, codeLines, sectionLines, wholeLines, variableLine, variableLines, lines}
 use Rattle.printout.specs.Internal.Item.{variablesLine, threadLine, headLines, itemLines, wholeLine, ItemAt}
@@ -170,10 +170,6 @@ module _ (s : List ℕ) (codes : List CodeSection) (counts report : List ℕ) (c
 -- How many lines the codes have
 
 -- one for each instruction, and one for the thread: as many as report bytes
-unfoldable pub reportSize : List CodeSection → ℕ
-reportSize [] = 0
-reportSize (x ∷ xs) = length (x .code) + 1 + reportSize xs
-
 length-section-lines : (s : List ℕ) (c : ℕ) (codes : List CodeSection) (report : List ℕ) → length (sectionLines s c codes report) ≡ reportSize codes
 unfolding sectionLines reportSize
 length-section-lines s c [] report = refl
@@ -181,16 +177,6 @@ length-section-lines s c (x ∷ xs) report =
     let after : List ℕ = drop (length (x .code) + 1) report in
     let own : List (List ℕ) = codeLines s (x .start) 0 (x .code) report in
     omega (arith, length-append own (sectionLines s (suc c) xs after), length-code-lines s (x .start) 0 (x .code) report, length-section-lines s (suc c) xs after)
-
-sections-size : (s : List ℕ) (locks variables n at m : ℕ) → SoundSections s locks variables n at m → reportSize (codesAt locks variables s n at) ≡ m + n
-unfolding reportSize codesAt
-sections-size s locks variables zero at m x = omega (arith, x .1)
-sections-size s locks variables (suc n) at m x =
-    omega (arith, length-instructions locks variables s (countAt s at) (at + 2), sections-size s locks variables n (at + 2 + 4 * countAt s at) (x .0) (x .3), x .2)
-
-pub report-size : (s : List ℕ) (l : Layout) → SoundFile s l → reportSize (programOf s l .codes) ≡ l .instructions + l .threads
-unfolding programOf
-report-size s l f = sections-size s (l .locks) (l .variables) (l .threads) (recordOffset (l .variables)) (l .instructions) (f .sections)
 
 codes-length : (s : List ℕ) (l : Layout) → length (programOf s l .codes) ≡ l .threads
 unfolding programOf

@@ -7,11 +7,11 @@ use native.Mathlib.Omega.{arith}
 use lib.ListN.{length, drop, length-drop, List·getD-append}
 use lib.Seq.{drop-append-le}
 use Rattle.program.specs.Layout.{CodeSection, programOf}
-use Rattle.program.specs.Internal.Sound.{SoundFile}
+use Rattle.program.specs.Internal.Sound.{SoundFile, reportSize}
 use Rattle.program.specs.declared.instruction.Instruction.{Instruction}
 use Rattle.program.specs.declared.layout.Layout.{Layout}
+use Rattle.program.proofs.Sound.{report-size}
 use Rattle.printout.specs.Line.{codeLines, sectionLines, wholeLines, lines}
-use Rattle.printout.proofs.Parts.{reportSize, report-size}
 
 -- the lines of code
 code-report : (s : List ℕ) (at place : ℕ) (is : List Instruction) (report rest : List ℕ) → length is ≤ length report

@@ -9,7 +9,7 @@
 --     Filling                     what holds at the loop's head
 --     filling-start, filling-next, filling-end
 --                                 ... where the loop begins, after a code, and at its end
---     report-inside, report-few   a code's report lies in the report, and the report is no longer than the longest
+--     report-inside               a code's report lies in the report
 use Prim.Native.Nat.{ℕ, zero, suc, _+_, _*_, _-_, _≤_, _<_}
 use mathlib.Core.Path.{_≡_, refl, sym, ap, _∙_, subst}
 use mathlib.Core.Logic.{_≢_}
@@ -26,7 +26,6 @@ use Rattle.program.specs.Internal.Bounds.{codeLimit}
 use Rattle.program.specs.Internal.Sections.{Located, SectionTable, noSection, bytesBefore}
 use Rattle.program.specs.Internal.Sound.{SoundFile, SoundSection, SoundSections, countAt}
 use Rattle.program.specs.declared.layout.Layout.{Layout}
-use Rattle.program.proofs.Sound.{instructions-few}
 
 -- the sections whose first length field is at an offset are those of the codes from c on, and have so many instructions
 pub record Walked (s : List ℕ) (l : Layout) (c at : ℕ) : Type 0 where
@@ -178,12 +177,7 @@ module _ (s : List ℕ) (l : Layout) (starts counts : List ℕ) (at c : ℕ) (f 
         total = rw (← all) (omega (arith, x .counted, walked-end s l c at h (x .walked)));
       }
 
--- a code's report lies in the report, and the report is no longer than the longest
+-- a code's report lies in the report
 module _ {s : List ℕ} {l : Layout} {starts counts : List ℕ} (x : SectionTable s l starts counts) where
   pub report-inside : (c : ℕ) → c < l .threads → bytesBefore counts c + getD counts c 0 < l .instructions + l .threads
   report-inside c h = omega (arith, bytes-one-more counts c, bytes-grow counts (c + 1) (l .threads) (omega arith), x .total)
-
-  pub report-few : l .instructions + l .threads ≤ reportLimit
-  report-few =
-      let f = x .sound in
-      omega (arith, instructions-few s (l .locks) (l .variables) (l .threads) (recordOffset (l .variables)) (l .instructions) (f .sections), f .threads)

@@ -4,6 +4,8 @@
 --                      all fields, front to back
 --     sound-file       of a file that is read as sound
 --     instructions-few at most 1,024 instructions for each thread
+--     report-size, report-few
+--                      how many report bytes it has, and that they are no more than the longest report's
 use Prim.Native.Nat.{ℕ, zero, suc, _+_, _*_, _/_, _<_, _≤_}
 use mathlib.Core.Path.{_≡_, refl, sym, _∙_, ap, subst}
 use mathlib.Core.Bool.{true, _&&_, and-eq-true-iff}
@@ -18,12 +20,13 @@ use Rattle.program.specs.Variable.{recordAt}
 use Rattle.program.specs.Variable
 use Rattle.program.specs.Instruction.{decodeAt}
 use Rattle.program.specs.Instruction
-use Rattle.program.specs.Layout.{variableSection, codeSection, codeSections, fields, reading}
-use Rattle.program.specs.Limits.{lockLimit, threadLimit, variableSize, instructionLimit, variableSectionLimit, recordsStart, recordOffset}
-use Rattle.program.specs.Internal.Sound.{countAt, SoundSection, SoundSections, SoundFile}
+use Rattle.program.specs.Layout.{programOf, codesAt, variableSection, codeSection, codeSections, fields, reading}
+use Rattle.program.specs.Limits.{lockLimit, threadLimit, variableSize, instructionLimit, variableSectionLimit, reportLimit, recordsStart, recordOffset}
+use Rattle.program.specs.Internal.Sound.{countAt, SoundSection, SoundSections, SoundFile, reportSize}
 use Rattle.program.specs.declared.cursor.Cursor.{Cursor}
 use Rattle.program.specs.declared.layout.Layout.{Layout}
 use Rattle.program.proofs.Answer.{fine-inj, fine-parts, bind-inv, require-inv}
+use Rattle.program.proofs.Contents.{length-instructions}
 use Rattle.program.proofs.Search.{firstBad-nowhere}
 use Rattle.program.proofs.Steps.{afterThreads, afterLocks, afterVersion}
 use Rattle.program.proofs.ReadBack.{Head, CodeRead, byte-value, variables-value, code-value}
@@ -143,8 +146,25 @@ sound-file s l h =
     })
 
 -- at most 1,024 instructions for each thread
-pub instructions-few : (s : List ℕ) (locks variables n at m : ℕ) → SoundSections s locks variables n at m → m ≤ instructionLimit * n
-instructions-few s locks variables zero at m h = omega (arith, h .1)
-instructions-few s locks variables (suc n) at m h =
+sections-few : (s : List ℕ) (locks variables n at m : ℕ) → SoundSections s locks variables n at m → m ≤ instructionLimit * n
+sections-few s locks variables zero at m h = omega (arith, h .1)
+sections-few s locks variables (suc n) at m h =
+    omega (arith, h .1 .few, h .2, sections-few s locks variables n (at + 2 + 4 * countAt s at) (h .0) (h .3))
+
+pub instructions-few : (s : List ℕ) (l : Layout) → SoundFile s l → l .instructions ≤ instructionLimit * l .threads
+instructions-few s l f = sections-few s (l .locks) (l .variables) (l .threads) (recordOffset (l .variables)) (l .instructions) (f .sections)
+
+-- as many report bytes as instructions and threads
+sections-size : (s : List ℕ) (locks variables n at m : ℕ) → SoundSections s locks variables n at m → reportSize (codesAt locks variables s n at) ≡ m + n
+unfolding reportSize codesAt
+sections-size s locks variables zero at m h = omega (arith, h .1)
+sections-size s locks variables (suc n) at m h =
     omega
-    (arith, h .1 .few, h .2, instructions-few s locks variables n (at + 2 + 4 * countAt s at) (h .0) (h .3))
+    (arith, length-instructions locks variables s (countAt s at) (at + 2), sections-size s locks variables n (at + 2 + 4 * countAt s at) (h .0) (h .3), h .2)
+
+pub report-size : (s : List ℕ) (l : Layout) → SoundFile s l → reportSize (programOf s l .codes) ≡ l .instructions + l .threads
+unfolding programOf
+report-size s l f = sections-size s (l .locks) (l .variables) (l .threads) (recordOffset (l .variables)) (l .instructions) (f .sections)
+
+pub report-few : (s : List ℕ) (l : Layout) → SoundFile s l → l .instructions + l .threads ≤ reportLimit
+report-few s l f = omega (arith, instructions-few s l f, f .threads)

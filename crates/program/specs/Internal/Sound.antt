@@ -4,10 +4,11 @@
 --     AllValid                                the instructions of a section are valid
 --     countAt, SoundSection, SoundSections    a code section, and all of them
 --     SoundFile                               the whole file
+--     reportSize                              how many report bytes its codes have
 use Prim.Native.Nat.{ℕ, zero, suc, _+_, _*_, _/_, _<_, _≤_}
 use mathlib.Core.Path.{_≡_}
 use mathlib.Core.Bool.{true}
-use mathlib.Core.List.{List, []}
+use mathlib.Core.List.{List, [], _∷_}
 use lib.ListN.{length}
 use Rattle.program.specs.View.{Access, none, reads, writes, takes, gives, accessOf}
 use Rattle.program.specs.Field.{byteAt, pairAt}
@@ -16,7 +17,7 @@ use Rattle.program.specs.Instruction
 use Rattle.program.specs.Variable.{recordAt}
 use Rattle.program.specs.Variable
 use Rattle.program.specs.Nesting.{firstBroken}
-use Rattle.program.specs.Layout.{instructionsAt}
+use Rattle.program.specs.Layout.{CodeSection, instructionsAt}
 use Rattle.program.specs.Limits.{lockLimit, threadLimit, variableSize, variableLimit, instructionSize, instructionLimit, recordOffset, registerCount}
 use Rattle.program.specs.declared.found.Found.the-variants.{Nowhere}
 use Rattle.program.specs.declared.instruction.Instruction.{Instruction}
@@ -87,3 +88,8 @@ pub record SoundFile (s : List ℕ) (l : Layout) : Type 0 where
   pub section : recordOffset (l .variables) ≤ length s
   pub records : (i : ℕ) → i < l .variables → Variable.isValid (recordAt (l .locks) (l .threads) s (recordOffset i)) ≡ true
   pub sections : SoundSections s (l .locks) (l .variables) (l .threads) (recordOffset (l .variables)) (l .instructions)
+
+-- how many report bytes some codes have: one for each instruction, and one for the whole
+unfoldable pub reportSize : List CodeSection → ℕ
+reportSize [] = 0
+reportSize (x ∷ xs) = length (x .code) + 1 + reportSize xs

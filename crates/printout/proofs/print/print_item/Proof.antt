@@ -9,7 +9,8 @@ use Rattle.program.specs.Limits.{reportLimit}
 use Rattle.program.specs.Internal.Bounds.{codeLimit}
 use Rattle.program.specs.Internal.Sections.{Located, SectionTable, bytesBefore}
 use Rattle.program.specs.declared.layout.Layout.{Layout}
-use Rattle.program.proofs.SectionTable.{report-inside, report-few}
+use Rattle.program.proofs.SectionTable.{report-inside}
+use Rattle.program.proofs.Sound.{report-few}
 use Rattle.printout.specs.Internal.Item.{ItemAt, wholeLine}
 use Rattle.printout.specs.declared.print.Item.the-variants.{Thread, Code, Whole}
 use Rattle.printout.proofs.Parts.{item-thread, item-code, item-whole}
@@ -26,7 +27,7 @@ Known s l starts counts t =
     × (l .instructions + l .threads ≤ reportLimit)
 
 known : {s : List ℕ} {l : Layout} {starts counts : List ℕ} → SectionTable s l starts counts → (t : ℕ) → t < l .threads → Known s l starts counts t
-known x t h = (omega (arith, x .sound .threads), x .located t h, report-inside x t h, report-few x)
+known x t h = (omega (arith, x .sound .threads), x .located t h, report-inside x t h, report-few _ _ (x .sound))
 
 -- the item of each arm
 thread-item : (c : tie.After-item) → let a = c .before .before .before .before .before .before .before .args in
@@ -52,7 +53,7 @@ whole-item c =
 item-at-requires : tie.Need-item-at-requires
 item-at-requires c κs =
     let table = c .before .before .before .before .pre .1 in
-    omega (arith, table .sound .threads, table .total, report-few table)
+    omega (arith, table .sound .threads, table .total, report-few _ _ (table .sound))
 
 -- `Item::Thread(t) => thread_line(file, starts[t] - 2, t, counts[t], out)`
 enum-known-item : tie.Need-enum-known-item
