@@ -2,7 +2,7 @@
 --     position-found      an op code whose row has a number is looked up as that row
 --     position-none       one without a row is invalid
 --     row-said            the instruction of valid bytes is its row's, whose fields are right
---     row-below           row numbers are small
+--     row-below           there are no more row numbers than rows
 --     limits-length       how long the lists of limits are
 --     fits-valid          bytes are valid exactly if they lie below the limits of their row
 --     all-right, one-register, two-registers, three-registers
@@ -31,6 +31,7 @@ use Rattle.program.specs.Instruction.{Decoded, Valid, Invalid, FieldKind
 use Rattle.program.specs.Limits.{registerCount}
 use Rattle.program.specs.Internal.Rows.{position, rowOf, rowsFrom, rowTable, limitOf, kinds, column, limitsOf, AreLimits, fits, nestingRows}
 use Rattle.program.specs.Internal.Change.{rowForm}
+use Rattle.program.specs.Internal.Seen.{AreRegisters}
 use Rattle.program.specs.Internal.Sound.{AccessBelow}
 use Rattle.program.specs.View as form
 use Rattle.program.specs.declared.instruction.Instruction.{Instruction}
@@ -119,10 +120,10 @@ module _ (locks variables op a b c : ℕ) where
   unfolding decode rowOf
   row-some valid e = let missing = position-none locks variables op a b c 1 (table a b c) (omega arith) e in let q : false ≡ true = rw missing at valid in differ cc
 
--- row numbers are small
-pub row-below : (op : ℕ) → rowOf op < 16
+-- there are no more row numbers than rows, from 1 on
+pub row-below : (op : ℕ) → rowOf op < 1 + length (table 0 0 0)
 unfolding rowOf
-row-below op = let h = position-below op 1 (table 0 0 0) (omega arith) in omega arith
+row-below op = position-below op 1 (table 0 0 0) (omega arith)
 
 -- ---- limits
 
@@ -159,7 +160,7 @@ kind-at a b c m field e same =
     ∙ ap (getD (map field (table a b c)) m) (sym e)
     ∙ List·getD-map field (table a b c) m noRow
 
-module _ (locks variables a b c m : ℕ) (h : m < 15) where
+module _ (locks variables a b c m : ℕ) (h : m < length (table 0 0 0)) where
   abbrev columnOf : (TableRow → FieldKind) → List ℕ
   columnOf field = column locks variables (kinds field)
 
@@ -196,7 +197,7 @@ module _ (locks variables op a b c : ℕ) (p : a < 256) (q : b < 256) (r : c < 2
   unfolding fits decode rowOf
   fits-some m e =
       let x = getD (table a b c) m noRow in
-      let h : m < 15 = omega (arith, e, row-below op) in
+      let h : m < length (table 0 0 0) = omega (arith, e, row-below op) in
       rw (
         limit-a locks variables a b c m h,
         limit-b locks variables a b c m h,
@@ -230,19 +231,18 @@ all-right x y z e =
     (g .0, g .1, h .1)
 
 module _ (locks variables : ℕ) (k j : FieldKind) (a b c : ℕ) where
-  pub one-register : isRightRow locks variables a b c (row 0 register k j End) ≡ true → a < registerCount
-  one-register e = ltb-true a registerCount (all-right (ltb a registerCount) (isRight locks variables k b) (isRight locks variables j c) e .0)
+  pub one-register : isRightRow locks variables a b c (row 0 register k j End) ≡ true → AreRegisters (a ∷ [])
+  one-register e = (ltb-true a registerCount (all-right (ltb a registerCount) (isRight locks variables k b) (isRight locks variables j c) e .0), tt)
 
-  pub two-registers : isRightRow locks variables a b c (row 0 register register j End) ≡ true → (a < registerCount) × (b < registerCount)
+  pub two-registers : isRightRow locks variables a b c (row 0 register register j End) ≡ true → AreRegisters (a ∷ b ∷ [])
   two-registers e =
       let h = all-right (ltb a registerCount) (ltb b registerCount) (isRight locks variables j c) e in
-      (ltb-true a registerCount (h .0), ltb-true b registerCount (h .1))
+      (ltb-true a registerCount (h .0), (ltb-true b registerCount (h .1), tt))
 
-pub three-registers : (a b c : ℕ) → isRightRow 0 0 a b c (row 0 register register register End) ≡ true
-    → (a < registerCount) × (b < registerCount) × (c < registerCount)
+pub three-registers : (a b c : ℕ) → isRightRow 0 0 a b c (row 0 register register register End) ≡ true → AreRegisters (a ∷ b ∷ c ∷ [])
 three-registers a b c e =
     let h = all-right (ltb a registerCount) (ltb b registerCount) (ltb c registerCount) e in
-    (ltb-true a registerCount (h .0), ltb-true b registerCount (h .1), ltb-true c registerCount (h .2))
+    (ltb-true a registerCount (h .0), (ltb-true b registerCount (h .1), (ltb-true c registerCount (h .2), tt)))
 
 -- ---- what the rows have in common
 
@@ -298,7 +298,10 @@ module _ (locks variables op a b c : ℕ) where
       (each-row (λ n r. eqb (nestingRows / 2 ^ n % 2) 1 || isPlain (formOf (r .instruction))) 1 m (table a b c) refl (omega (arith, row-below op)))
       (rw number unset)))
 
-  -- the forms of rows 10 to 15
+  -- rows 10 to 15, and their forms
+  abbrev nests : ℕ → Bool
+  nests n = leb 10 n && leb n 15
+
   by-row : (k : ℕ) → k < 6 → rowOf op ≡ suc (9 + k) → isValid (decode locks variables op a b c) ≡ true
       → formOf (decodedInstruction (decode locks variables op a b c)) ≡ rowForm (suc (9 + k)) a (b * 256 + c)
   unfolding formOf
@@ -317,13 +320,15 @@ module _ (locks variables op a b c : ℕ) where
       let m = rowOf op - 1 in
       let is-m : rowOf op ≡ suc m = omega (arith, row-some locks variables op a b c valid) in
       let number : 1 + m ≡ rowOf op = omega (arith, is-m) in
-      let late : leb 10 (rowOf op) ≡ true = rw number at (or-right (eqb (nestingRows / 2 ^ (1 + m) % 2) 0) (leb 10 (1 + m))
-      (each-row (λ n r. eqb (nestingRows / 2 ^ n % 2) 0 || leb 10 n) 1 m (table a b c) refl (omega (arith, row-below op)))
+      let among : nests (rowOf op) ≡ true = rw number at (or-right (eqb (nestingRows / 2 ^ (1 + m) % 2) 0) (nests (1 + m))
+      (each-row (λ n r. eqb (nestingRows / 2 ^ n % 2) 0 || nests n) 1 m (table a b c) refl (omega (arith, row-below op)))
       (rw number (ne-eqb (nestingRows / 2 ^ rowOf op % 2) 0 (λ e. omega (arith, eqb-true (nestingRows / 2 ^ rowOf op % 2) 1 bit))))) in
-      let ten : 10 ≤ rowOf op = leb-true 10 (rowOf op) late in
+      let h = and-eq-true-iff (leb 10 (rowOf op)) (leb (rowOf op) 15) .0 among in
+      let low = leb-true 10 (rowOf op) (h .0) in
+      let high = leb-true (rowOf op) 15 (h .1) in
       let k = rowOf op - 10 in
       let is-k : rowOf op ≡ suc (9 + k) = omega arith in
-      by-row k (omega (arith, row-below op)) is-k valid ∙ ap (λ (r : ℕ). rowForm r a (b * 256 + c)) (sym is-k)
+      by-row k (omega arith) is-k valid ∙ ap (λ (r : ℕ). rowForm r a (b * 256 + c)) (sym is-k)
 
 -- ---- accesses
 
@@ -364,7 +369,7 @@ module _ (locks variables a b c : ℕ) where
   RowBelow m = isRightRow locks variables a b c (getD (table a b c) m noRow) ≡ true
       → AccessBelow locks variables (accessOf (getD (table a b c) m noRow .instruction))
 
-  access-row : (m : ℕ) → m < 15 → RowBelow m
+  access-row : (m : ℕ) → m < length (table 0 0 0) → RowBelow m
   unfolding accessOf noAccess
   access-row m h = cases (accesses (1 + m)) refl
     where

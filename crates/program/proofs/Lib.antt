@@ -5,7 +5,7 @@
 --     Lists        facts about lists that the kit does not have
 --     Answer       answers: going on, and what a fine one went on from
 --     Decode       what a decoded instruction's fields satisfy
---     Seen         what the rules see of an instruction: the one law over all of them
+--     Seen         what the rules see of an instruction that a `_ =>` arm takes
 --     Contents     a file's contents by index
 --     Search       the search for the first offence
 --     Stack        a stack held in an array

@@ -1,10 +1,9 @@
--- What the rules see of an instruction: the one law over all instructions. Assumes nothing.
---     Seen, seen                 an access, an opener or a closer by its constructor; any other is local
---     keysBeside                 the keys of a `_ =>` arm: those of all instructions but some
---     unnamed-plain              an instruction of such an arm beside all openers and closers
---     unnamed-local              ... and beside all accesses too
+-- What the rules see of an instruction that a `_ =>` arm takes. Assumes nothing.
+--     own-plain, own-alone       a local instruction is no opener or closer, and makes no access
+--     keysBeside                 the keys of a `_ =>` arm beside all accesses, openers and closers
+--     unnamed-local              an instruction of such an arm
 use Prim.Native.Nat.{ℕ, zero, suc}
-use mathlib.Core.Path.{_≡_, refl, sym, subst}
+use mathlib.Core.Path.{_≡_, refl, sym, ap, subst}
 use mathlib.Core.Bool.{Bool, true, _&&_, not, and-eq-true-iff}
 use mathlib.Core.List.{List, [], _∷_}
 use mathlib.Core.Logic.{inl, inr}
@@ -12,43 +11,22 @@ use lib.Dec.{leb}
 use lib.ListN.{length}
 use denote.Enum.Declared.{tagOf, variants}
 use types.Run.{OneOf}
-use Rattle.program.specs.View.{none, accessOf, formOf, Plain}
+use Rattle.program.specs.View.{own, viewOf, none, accessIn, accessOf, formIn, formOf, Plain}
 use Rattle.program.specs.Choice.{choose}
+use Rattle.program.specs.Internal.Seen.{Seen, seen-local, seen-read, seen-write, seen-take, seen-give, seen-if, seen-else, seen-while, seen-again, seen-atomic, seen-end, seen}
 use Rattle.program.specs.declared.instruction.Instruction.{Instruction}
-use Rattle.program.specs.declared.instruction.Instruction.the-variants.{Set, Copy, Add, Sub, Less, Read, Write, Take, Give, If, Else, While, Again, Atomic, End}
+use Rattle.program.specs.declared.instruction.Instruction.the-variants.{Read, Write, Take, Give, If, Else, While, Again, Atomic, End}
 use Rattle.program.proofs.Differ.{differ}
 use Rattle.program.proofs.instruction.Instruction.{the-type}
 
-pub data Seen : Instruction → Type 0 where
-  seen-local : {i : Instruction} → formOf i ≡ Plain → accessOf i ≡ none → Seen i
-  seen-read : {a v : ℕ} → Seen (Read a v)
-  seen-write : {a v : ℕ} → Seen (Write a v)
-  seen-take : {k : ℕ} → Seen (Take k)
-  seen-give : {k : ℕ} → Seen (Give k)
-  seen-if : {a n : ℕ} → Seen (If a n)
-  seen-else : {n : ℕ} → Seen (Else n)
-  seen-while : {a n : ℕ} → Seen (While a n)
-  seen-again : {n : ℕ} → Seen (Again n)
-  seen-atomic : {n : ℕ} → Seen (Atomic n)
-  seen-end : Seen End
+module _ (i : Instruction) (e : viewOf i ≡ own) where
+  pub own-plain : formOf i ≡ Plain
+  unfolding formOf
+  own-plain = ap formIn e
 
-pub seen : (i : Instruction) → Seen i
-unfolding formOf accessOf
-seen (Set a n) = seen-local refl refl
-seen (Copy a b) = seen-local refl refl
-seen (Add a b c) = seen-local refl refl
-seen (Sub a b c) = seen-local refl refl
-seen (Less a b c) = seen-local refl refl
-seen (Read a v) = seen-read
-seen (Write a v) = seen-write
-seen (Take k) = seen-take
-seen (Give k) = seen-give
-seen (If a n) = seen-if
-seen (Else n) = seen-else
-seen (While a n) = seen-while
-seen (Again n) = seen-again
-seen (Atomic n) = seen-atomic
-seen End = seen-end
+  pub own-alone : accessOf i ≡ none
+  unfolding accessOf
+  own-alone = ap accessIn e
 
 -- what holds of each key of an arm holds of the tag that is one of them
 unfoldable allKeys : (ℕ → Bool) → List ℕ → Bool
@@ -66,38 +44,24 @@ one-of-all : (test : ℕ → Bool) (x : ℕ) (ks : List ℕ) → OneOf ks x → 
 one-of-all test x [] h all = absurd h
 one-of-all test x (k ∷ ks) h all = one-of-some test x k ks h all
 
--- the keys of a `_ =>` arm beside all openers and closers, whose tags are 9 to 14, or beside all accesses too, from 5 on
-unfoldable keysFrom : (first n k : ℕ) → List ℕ
-keysFrom first zero k = []
-keysFrom first (suc n) k = choose (leb first k && leb k 14) (keysFrom first n (suc k)) (k ∷ keysFrom first n (suc k))
+-- the tags of accesses, openers and closers, and the keys of a `_ =>` arm beside them all
+abbrev isNamed : ℕ → Bool
+isNamed k = leb 5 k && leb k 14
 
-unfoldable pub keysBeside : (first : ℕ) → List ℕ
+unfoldable keysFrom : (n k : ℕ) → List ℕ
+keysFrom zero k = []
+keysFrom (suc n) k = choose (isNamed k) (keysFrom n (suc k)) (k ∷ keysFrom n (suc k))
+
+unfoldable pub keysBeside : List ℕ
 unfolding keysFrom
-keysBeside first = keysFrom first (length (variants the-type)) 0
+keysBeside = keysFrom (length (variants the-type)) 0
 
-pub unnamed-plain : (i : Instruction) → OneOf (keysBeside 9) (tagOf the-type i) → formOf i ≡ Plain
-unfolding formOf keysBeside allKeys
-unnamed-plain i h = cases i (seen i) (one-of-all (λ k. not (leb 9 k && leb k 14)) (tagOf the-type i) (keysBeside 9) h refl)
-  where
-    cases : (i : Instruction) → Seen i → not (leb 9 (tagOf the-type i) && leb (tagOf the-type i) 14) ≡ true → formOf i ≡ Plain
-    cases i (seen-local f a) e = f
-    cases (Read a v) seen-read e = refl
-    cases (Write a v) seen-write e = refl
-    cases (Take k) seen-take e = refl
-    cases (Give k) seen-give e = refl
-    cases (If a n) seen-if e = differ cc
-    cases (Else n) seen-else e = differ cc
-    cases (While a n) seen-while e = differ cc
-    cases (Again n) seen-again e = differ cc
-    cases (Atomic n) seen-atomic e = differ cc
-    cases End seen-end e = differ cc
-
-pub unnamed-local : (i : Instruction) → OneOf (keysBeside 5) (tagOf the-type i) → (formOf i ≡ Plain) × (accessOf i ≡ none)
+pub unnamed-local : (i : Instruction) → OneOf keysBeside (tagOf the-type i) → (formOf i ≡ Plain) × (accessOf i ≡ none)
 unfolding keysBeside allKeys
-unnamed-local i h = cases i (seen i) (one-of-all (λ k. not (leb 5 k && leb k 14)) (tagOf the-type i) (keysBeside 5) h refl)
+unnamed-local i h = cases i (seen i) (one-of-all (λ k. not (isNamed k)) (tagOf the-type i) keysBeside h refl)
   where
-    cases : (i : Instruction) → Seen i → not (leb 5 (tagOf the-type i) && leb (tagOf the-type i) 14) ≡ true → (formOf i ≡ Plain) × (accessOf i ≡ none)
-    cases i (seen-local f a) e = (f, a)
+    cases : (i : Instruction) → Seen i → not (isNamed (tagOf the-type i)) ≡ true → (formOf i ≡ Plain) × (accessOf i ≡ none)
+    cases i (seen-local rs is-own) e = (own-plain i is-own, own-alone i is-own)
     cases (Read a v) seen-read e = differ cc
     cases (Write a v) seen-write e = differ cc
     cases (Take k) seen-take e = differ cc

@@ -3,13 +3,11 @@
 --     stack-top      the innermost, and those below it
 --     stack-below    a store above the depth is not seen
 --     stack-push     a store right above the depth, which goes up by one
---     drop-stack     without the k innermost
 use Prim.Native.Nat.{ℕ, zero, suc, _+_, _-_, _<_}
 use mathlib.Core.Path.{_≡_, refl, ap}
 use mathlib.Core.List.{List, _∷_}
-use lib.ListN.{length, getD, set, drop}
+use lib.ListN.{length, getD, set}
 use lib.Seq.{getD-set-same, getD-set-other}
-use native.Mathlib.Nat.{zero-add, suc-add}
 use native.Mathlib.Numerals.{add-one, sub-one}
 use native.Mathlib.Omega.{arith}
 use Rattle.program.specs.Internal.Stack.{stackOf}
@@ -39,9 +37,3 @@ module _ {A : Type 0} (none : A) where
   stack-push d xs a h =
       let inside : suc d < length xs = omega arith in
       rw (add-one, getD-set-same xs (suc d) a none inside, stack-below d xs (suc d) a (omega arith))
-
-  -- without the k innermost
-  pub drop-stack : (k d : ℕ) (xs : List A) → drop k (stackOf none (k + d) xs) ≡ stackOf none d xs
-  unfolding stackOf
-  drop-stack zero d xs = rw zero-add
-  drop-stack (suc k) d xs = rw (suc-add k d) (drop-stack k d xs)

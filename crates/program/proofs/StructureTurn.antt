@@ -21,8 +21,9 @@ use Rattle.program.specs.declared.nesting.Entry.the-variants as entry
 use Rattle.program.specs.Limits.{entryLimit}
 use Rattle.program.specs.Nesting.{broken, opened, unnamed, opening, passing, atElse, atAgain, atEnd, nest, atCodeEnd, goOn, firstBroken}
 use Rattle.program.specs.Internal.WellFormed.{Passes, Closes, at-code-end, at-else, at-again, at-choice-end, at-block-end, ComesTo, closes, at-plain, at-if, at-while, at-atomic}
-use Rattle.program.proofs.Seen.{Seen, seen, seen-local, seen-read, seen-write, seen-take, seen-give, seen-if, seen-else, seen-while, seen-again, seen-atomic, seen-end}
+use Rattle.program.specs.Internal.Seen.{Seen, seen-local, seen-read, seen-write, seen-take, seen-give, seen-if, seen-else, seen-while, seen-again, seen-atomic, seen-end, seen}
 use Rattle.program.proofs.Differ.{differ}
+use Rattle.program.proofs.Seen.{own-plain}
 
 -- ---- tests
 
@@ -97,7 +98,7 @@ comes-to p [] (e ∷ es) h = at≢nowhere h
 comes-to p (i ∷ is) es h = cases i (seen i) h
   where
     cases : (i : Instruction) → Seen i → goOn p (nest p (formOf i) es) (firstBroken (suc p) is) ≡ Nowhere → ComesTo p (i ∷ is) es
-    cases i (seen-local f a) h = turn-plain p is es i f h
+    cases i (seen-local rs e) h = turn-plain p is es i (own-plain i e) h
     cases (Read a v) seen-read h = turn-plain p is es (Read a v) refl h
     cases (Write a v) seen-write h = turn-plain p is es (Write a v) refl h
     cases (Take k) seen-take h = turn-plain p is es (Take k) refl h

@@ -45,7 +45,7 @@ viewOf (instruction.Again n) = nests (Again n)
 viewOf (instruction.Atomic n) = nests (Atomic n)
 viewOf instruction.End = nests End
 
-abbrev accessIn : View → Access
+abbrev pub accessIn : View → Access
 accessIn own = none
 accessIn (shares x) = x
 accessIn (nests f) = none
@@ -53,7 +53,7 @@ accessIn (nests f) = none
 unfoldable pub accessOf : Instruction → Access
 accessOf i = accessIn (viewOf i)
 
-abbrev formIn : View → Form
+abbrev pub formIn : View → Form
 formIn own = Plain
 formIn (shares x) = Plain
 formIn (nests f) = f

@@ -8,7 +8,7 @@ ghost use Rattle.program.specs.Instruction.{decodeAt, decodedInstruction
 ghost use Rattle.program.specs.Instruction as Table;
 ghost use Rattle.program.specs.Limits.{instructionSize, lockLimit, variableLimit};
 ghost use Rattle.program.specs.Internal.Rows.{limitsOf, nestingRows, rowOf, rowTable};
-ghost use Rattle.program.specs.Internal.Sound.{RegistersGood};
+ghost use Rattle.program.specs.Internal.Seen.{RegistersGood};
 
 pub enum Instruction {
     Set(u8, u16),

@@ -1,6 +1,6 @@
 -- What a sound file is known to hold, for the laws of proofs/ and for what inner functions of the crates above require; no public
 -- call's contract cites it. `proofs/Sound.antt` shows it of every file that is read as sound.
---     RegistersGood, AccessBelow, FieldsGood  an instruction names registers, locks and variables that there are
+--     AccessBelow, FieldsGood                 an instruction names registers, locks and variables that there are
 --     AllValid                                the instructions of a section are valid
 --     countAt, SoundSection, SoundSections    a code section, and all of them
 --     SoundFile                               the whole file
@@ -18,29 +18,11 @@ use Rattle.program.specs.Variable.{recordAt}
 use Rattle.program.specs.Variable
 use Rattle.program.specs.Nesting.{firstBroken}
 use Rattle.program.specs.Layout.{CodeSection, instructionsAt}
-use Rattle.program.specs.Limits.{lockLimit, threadLimit, variableSize, variableLimit, instructionSize, instructionLimit, recordOffset, registerCount}
+use Rattle.program.specs.Internal.Seen.{RegistersGood}
+use Rattle.program.specs.Limits.{lockLimit, threadLimit, variableSize, variableLimit, instructionSize, instructionLimit, recordOffset}
 use Rattle.program.specs.declared.found.Found.the-variants.{Nowhere}
 use Rattle.program.specs.declared.instruction.Instruction.{Instruction}
-use Rattle.program.specs.declared.instruction.Instruction.the-variants.{Set, Copy, Add, Sub, Less, Read, Write, Take, Give, If, Else, While, Again, Atomic, End}
 use Rattle.program.specs.declared.layout.Layout.{Layout}
-
--- "Registers are r0 to r7": those that an instruction names are
-abbrev pub RegistersGood : Instruction → Type 0
-RegistersGood (Set a n) = a < registerCount
-RegistersGood (Copy a b) = (a < registerCount) × (b < registerCount)
-RegistersGood (Add a b c) = (a < registerCount) × (b < registerCount) × (c < registerCount)
-RegistersGood (Sub a b c) = (a < registerCount) × (b < registerCount) × (c < registerCount)
-RegistersGood (Less a b c) = (a < registerCount) × (b < registerCount) × (c < registerCount)
-RegistersGood (Read a v) = a < registerCount
-RegistersGood (Write a v) = a < registerCount
-RegistersGood (Take k) = Unit
-RegistersGood (Give k) = Unit
-RegistersGood (If a n) = a < registerCount
-RegistersGood (Else n) = Unit
-RegistersGood (While a n) = a < registerCount
-RegistersGood (Again n) = Unit
-RegistersGood (Atomic n) = Unit
-RegistersGood End = Unit
 
 -- "Every lock, variable .. named must lie below its count": those of an access do
 abbrev pub AccessBelow : (locks variables : ℕ) → Access → Type 0

@@ -8,7 +8,7 @@ use lib.ListN.{length, getD}
 use Rattle.program.specs.Instruction.{decodeAt, decodedInstruction}
 use Rattle.program.specs.Limits.{threadLimit}
 use Rattle.program.specs.Internal.Sections.{Located}
-use Rattle.program.specs.Internal.Sound.{RegistersGood}
+use Rattle.program.specs.Internal.Seen.{RegistersGood}
 use Rattle.machine.specs.Internal.Kept.{threadsIn, nobody}
 use Rattle.machine.specs.declared.thread.Thread.{Thread}
 use Rattle.machine.proofs.Kept.{step-idle, access-below-limits, stepped}

@@ -1,16 +1,22 @@
 -- `instruction_of` meets its contract: a row's number says which row of the table was found. Assumes nothing.
-use Prim.Native.Nat.{ℕ, suc, _≤_}
+use Prim.Native.Nat.{ℕ, zero, suc, _<_}
 use mathlib.Core.Path.{_≡_, sym, _∙_}
+use mathlib.Core.Logic.{_≢_}
 use native.Mathlib.Omega.{arith}
 use borrow.Author.Needs.{needs}
-use Rattle.program.specs.Instruction.{variable, zero, part}
+use Rattle.program.specs.Instruction.{variable, zero as zeroField, part}
 use Rattle.program.proofs.Decode.{row-said, row-some, row-below, one-register, two-registers, three-registers}
 use Rattle.program.proofs.instruction.instruction_of.Statement.{statement}
 use Rattle.program.proofs.instruction.instruction_of.Tie as tie
 
--- a number from n on that is not n
-above : (n k : ℕ) → n ≤ k → (k ≡ n → ⊥) → suc n ≤ k
-above n k h differs = omega (arith, differs)
+-- none of 1 to n, as a match says it in its `_` arm
+abbrev NoneTo : (n k : ℕ) → Type 0
+NoneTo zero k = Unit
+NoneTo (suc n) k = NoneTo n k × (k ≡ suc n → ⊥)
+
+above : (n k : ℕ) → k ≢ 0 → NoneTo n k → n < k
+above zero k some none = omega (arith, some)
+above (suc n) k some none = omega (arith, above n k some (none .0), none .1)
 
 -- `let n = (b as u16) * 256 + (c as u16)`
 mul-n : tie.Need-mul-n
@@ -31,7 +37,7 @@ returns-2 : tie.Need-returns-2
 returns-2 c locks variables op e valid =
     let x = c .before .args in
     let said = row-said locks variables op (x .a) (x .b) (x .c) 1 (sym e ∙ c .match .keys2) valid in
-    (said .0, two-registers locks variables zero zero (x .a) (x .b) (x .c) (said .1))
+    (said .0, two-registers locks variables zeroField zeroField (x .a) (x .b) (x .c) (said .1))
 
 -- `3 => Instruction::Add(a, b, c)`
 returns-3 : tie.Need-returns-3
@@ -59,14 +65,14 @@ returns-6 : tie.Need-returns-6
 returns-6 c locks variables op e valid =
     let x = c .before .args in
     let said = row-said locks variables op (x .a) (x .b) (x .c) 5 (sym e ∙ c .match .keys6) valid in
-    (said .0, one-register locks variables variable zero (x .a) (x .b) (x .c) (said .1))
+    (said .0, one-register locks variables variable zeroField (x .a) (x .b) (x .c) (said .1))
 
 -- `7 => Instruction::Write(a, b)`
 returns-7 : tie.Need-returns-7
 returns-7 c locks variables op e valid =
     let x = c .before .args in
     let said = row-said locks variables op (x .a) (x .b) (x .c) 6 (sym e ∙ c .match .keys7) valid in
-    (said .0, one-register locks variables variable zero (x .a) (x .b) (x .c) (said .1))
+    (said .0, one-register locks variables variable zeroField (x .a) (x .b) (x .c) (said .1))
 
 -- `8 => Instruction::Take(a)`
 returns-8 : tie.Need-returns-8
@@ -121,24 +127,9 @@ returns-14 c locks variables op e valid =
 returns-15 : tie.Need-returns-15
 returns-15 c locks variables op e valid =
     let x = c .before .args in
-    let r = c .match .rest in
     let some = row-some locks variables op (x .a) (x .b) (x .c) valid in
-    let h0 : 1 ≤ x .row = omega (arith, e, some) in
-    let h1 = above 1 (x .row) h0 (r .0 .0 .0 .0 .0 .0 .0 .0 .0 .0 .0 .0 .0 .1) in
-    let h2 = above 2 (x .row) h1 (r .0 .0 .0 .0 .0 .0 .0 .0 .0 .0 .0 .0 .1) in
-    let h3 = above 3 (x .row) h2 (r .0 .0 .0 .0 .0 .0 .0 .0 .0 .0 .0 .1) in
-    let h4 = above 4 (x .row) h3 (r .0 .0 .0 .0 .0 .0 .0 .0 .0 .0 .1) in
-    let h5 = above 5 (x .row) h4 (r .0 .0 .0 .0 .0 .0 .0 .0 .0 .1) in
-    let h6 = above 6 (x .row) h5 (r .0 .0 .0 .0 .0 .0 .0 .0 .1) in
-    let h7 = above 7 (x .row) h6 (r .0 .0 .0 .0 .0 .0 .0 .1) in
-    let h8 = above 8 (x .row) h7 (r .0 .0 .0 .0 .0 .0 .1) in
-    let h9 = above 9 (x .row) h8 (r .0 .0 .0 .0 .0 .1) in
-    let h10 = above 10 (x .row) h9 (r .0 .0 .0 .0 .1) in
-    let h11 = above 11 (x .row) h10 (r .0 .0 .0 .1) in
-    let h12 = above 12 (x .row) h11 (r .0 .0 .1) in
-    let h13 = above 13 (x .row) h12 (r .0 .1) in
-    let h14 = above 14 (x .row) h13 (r .1) in
-    let said = row-said locks variables op (x .a) (x .b) (x .c) 14 (omega (arith, e, h14, row-below op)) valid in
+    let last = above 14 (x .row) (λ z. some (sym e ∙ z)) (c .match .rest) in
+    let said = row-said locks variables op (x .a) (x .b) (x .c) 14 (omega (arith, e, last, row-below op)) valid in
     (said .0, tt)
 
 pub instruction-of-spec : {M : Type 1} → statement M
