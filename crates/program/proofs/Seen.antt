@@ -4,7 +4,7 @@
 --     unnamed-local              an instruction of such an arm
 use Prim.Native.Nat.{ℕ, zero, suc}
 use mathlib.Core.Path.{_≡_, refl, sym, ap, subst}
-use mathlib.Core.Bool.{Bool, true, _&&_, not, and-eq-true-iff}
+use mathlib.Core.Bool.{Bool, true, _&&_, not, true≢false, and-eq-true-iff}
 use mathlib.Core.List.{List, [], _∷_}
 use mathlib.Core.Logic.{inl, inr}
 use lib.Dec.{leb}
@@ -16,7 +16,6 @@ use Rattle.program.specs.Choice.{choose}
 use Rattle.program.specs.Internal.Seen.{Seen, seen-local, seen-read, seen-write, seen-take, seen-give, seen-if, seen-else, seen-while, seen-again, seen-atomic, seen-end, seen}
 use Rattle.program.specs.declared.instruction.Instruction.{Instruction}
 use Rattle.program.specs.declared.instruction.Instruction.the-variants.{Read, Write, Take, Give, If, Else, While, Again, Atomic, End}
-use Rattle.program.proofs.Differ.{differ}
 use Rattle.program.proofs.instruction.Instruction.{the-type}
 
 module _ (i : Instruction) (e : viewOf i ≡ own) where
@@ -62,13 +61,13 @@ unnamed-local i h = cases i (seen i) (one-of-all (λ k. not (isNamed k)) (tagOf 
   where
     cases : (i : Instruction) → Seen i → not (isNamed (tagOf the-type i)) ≡ true → (formOf i ≡ Plain) × (accessOf i ≡ none)
     cases i (seen-local rs is-own) e = (own-plain i is-own, own-alone i is-own)
-    cases (Read a v) seen-read e = differ cc
-    cases (Write a v) seen-write e = differ cc
-    cases (Take k) seen-take e = differ cc
-    cases (Give k) seen-give e = differ cc
-    cases (If a n) seen-if e = differ cc
-    cases (Else n) seen-else e = differ cc
-    cases (While a n) seen-while e = differ cc
-    cases (Again n) seen-again e = differ cc
-    cases (Atomic n) seen-atomic e = differ cc
-    cases End seen-end e = differ cc
+    cases (Read a v) seen-read e = absurd (true≢false (sym e))
+    cases (Write a v) seen-write e = absurd (true≢false (sym e))
+    cases (Take k) seen-take e = absurd (true≢false (sym e))
+    cases (Give k) seen-give e = absurd (true≢false (sym e))
+    cases (If a n) seen-if e = absurd (true≢false (sym e))
+    cases (Else n) seen-else e = absurd (true≢false (sym e))
+    cases (While a n) seen-while e = absurd (true≢false (sym e))
+    cases (Again n) seen-again e = absurd (true≢false (sym e))
+    cases (Atomic n) seen-atomic e = absurd (true≢false (sym e))
+    cases End seen-end e = absurd (true≢false (sym e))
