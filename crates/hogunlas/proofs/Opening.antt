@@ -3,7 +3,6 @@
 --     opened-by                                    a file that judge_file accepted is accepted with the report it left
 --     count-threads, count-variables, count-locks  how many the program has
 --     state-size                                   the bytes that the end state takes
---     opened-sound                                 an accepted file is sound
 --     counts-small                                 a sound file's counts are within the limits
 use Prim.Native.Nat.{ℕ, _≤_}
 use mathlib.Core.Path.{_≡_, refl, sym, _∙_, ap}
@@ -15,15 +14,15 @@ use Rattle.judge.specs.Judging.{judgeProgram}
 use Rattle.judge.specs.Internal.Judgement.{AcceptedAs}
 use Rattle.program.proofs.Answer.{fine-inj, bind-inv}
 use Rattle.program.proofs.Contents.{length-variables}
-use Rattle.program.proofs.Sound.{sound-file, instructions-few}
+use Rattle.program.proofs.Sound.{instructions-few}
 use Rattle.program.specs.Answer.{fine}
 use Rattle.program.specs.Layout.{Program, programOf, reading}
-use Rattle.program.specs.Limits.{recordsStart, threadLimit, variableLimit, recordOffset, sizeOfState}
+use Rattle.program.specs.Limits.{recordsStart, threadLimit, variableLimit, sizeOfState}
 use Rattle.program.specs.Internal.Bounds.{programLimit}
 use Rattle.program.specs.Internal.Sound.{SoundFile}
 use Rattle.program.specs.declared.layout.Layout.{Layout}
 use Rattle.hogunlas.specs.Calls.{stateSize}
-use Rattle.hogunlas.specs.Internal.Opened.{Opened, OpenedFile}
+use Rattle.hogunlas.specs.Internal.Opened.{Opened}
 
 -- an accepted file's program is the one that reading finds
 pub program-of : (s : List ℕ) (l : Layout) (a : Accepted) → reading s ≡ fine l → accept s ≡ fine a → a .program ≡ programOf s l
@@ -57,10 +56,6 @@ module _ (s : List ℕ) (l : Layout) where
   pub state-size : stateSize (programOf s l) ≡ sizeOfState (l .variables) (l .locks) (l .threads)
   unfolding stateSize
   state-size = rw (count-threads, count-variables, count-locks)
-
--- an accepted file is sound, so its counts are small
-pub opened-sound : {s : List ℕ} {l : Layout} → OpenedFile s l → SoundFile s l
-opened-sound {s} {l} o = sound-file s l (o .opened .reads)
 
 -- the counts of a sound file are small
 pub counts-small : (s : List ℕ) (l : Layout) → SoundFile s l → (l .threads ≤ threadLimit) × (l .variables ≤ variableLimit) × (l .instructions ≤ programLimit)

@@ -4,21 +4,19 @@
 --     report-length-small   its report fits the buffer that every report fits
 --     file-refused          a refusal of the scan is the file's
 --     file-accepted         where the scan passes, the file is accepted, and its report laid over the buffer
-use Prim.Native.Nat.{ℕ, zero, suc, _+_, _*_, _≤_}
+use Prim.Native.Nat.{ℕ, _+_, _≤_}
 use mathlib.Core.Path.{_≡_, refl, sym, _∙_, ap}
 use mathlib.Core.List.{List, _++_}
 use native.Mathlib.Omega.{arith}
 use lib.ListN.{length, drop}
 use lib.Seq.{sets}
 use Rattle.program.specs.Answer.{Answer, fine, refused, _>>=_}
-use Rattle.program.specs.Layout.{programOf, codesAt, reading}
-use Rattle.program.specs.Limits.{instructionLimit, recordOffset, reportLimit}
+use Rattle.program.specs.Layout.{programOf, reading}
+use Rattle.program.specs.Limits.{recordOffset, reportLimit}
 use Rattle.program.specs.Internal.Sections.{SectionTable}
-use Rattle.program.specs.Internal.Sound.{SoundSections, countAt}
 use Rattle.program.specs.declared.layout.Layout.{Layout}
 use Rattle.program.specs.declared.refusal.Refusal.{Refusal}
 use Rattle.program.proofs.Answer.{Holds, fine-inj, refused-inj, holds-map}
-use Rattle.program.proofs.Contents.{length-instructions}
 use Rattle.program.proofs.Differ.{differ}
 use Rattle.program.proofs.Lists.{sets-front}
 use Rattle.program.proofs.Sound.{sound-file, report-size, report-few}

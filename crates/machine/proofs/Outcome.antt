@@ -3,15 +3,11 @@
 --     run-sum        "their sum is the list's length"
 use Prim.Native.Nat.{ℕ, _+_}
 use mathlib.Core.Path.{_≡_, _∙_}
-use mathlib.Core.Bool.{true, false}
 use mathlib.Core.List.{List, [], _∷_}
 use native.Mathlib.Omega.{arith}
 use lib.ListN.{length}
-use borrow.Author.Tests.{eq-eqb, ne-eqb}
-use Rattle.program.specs.Layout.{Program, codeOf}
-use Rattle.machine.specs.State.{threadOf}
-use Rattle.program.specs.View.{accessOf}
-use Rattle.machine.specs.Step.{waits, instructionOf, moveBy, outcome, step}
+use Rattle.program.specs.Layout.{Program}
+use Rattle.machine.specs.Step.{outcome}
 use Rattle.machine.specs.Run.{Run, counted, runFrom, run}
 use Rattle.machine.specs.declared.run.Counts.{Counts}
 use Rattle.machine.specs.declared.thread.Outcome.{Outcome}

@@ -1,14 +1,11 @@
 -- Threads in two arrays, their places and their registers. Assumes nothing.
 --     threads-at      a thread, by its number
 --     threads-set     another one at a number
---     threads-fresh   all at the start
 use Prim.Native.Nat.{ℕ, zero, suc, _<_}
 use mathlib.Core.Path.{_≡_, refl, ap}
 use mathlib.Core.List.{List, [], _∷_}
 use native.Mathlib.Omega.{arith}
-use lib.ListN.{length, getD, set, replicate}
-use Rattle.program.specs.Limits.{threadLimit, registerCount}
-use Rattle.machine.specs.State.{fresh}
+use lib.ListN.{length, getD, set}
 use Rattle.machine.specs.Internal.Kept.{threadsIn, nobody}
 use Rattle.machine.specs.declared.thread.Thread.{Thread}
 
@@ -28,7 +25,3 @@ threads-set (q ∷ ps) [] zero p r = refl
 threads-set (q ∷ ps) [] (suc t) p r = refl
 threads-set (q ∷ ps) (u ∷ rs) zero p r = refl
 threads-set (q ∷ ps) (u ∷ rs) (suc t) p r = ap (λ (ths : List Thread). record { place = q; registers = u } ∷ ths) (threads-set ps rs t p r)
-
-pub threads-fresh : threadsIn (replicate threadLimit 0) (replicate threadLimit (replicate registerCount 0)) ≡ replicate threadLimit fresh
-unfolding threadsIn fresh
-threads-fresh = refl

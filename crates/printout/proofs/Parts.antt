@@ -24,7 +24,7 @@ use native.Mathlib.Omega.{arith}
 use lib.ListN.{length, getD, drop, length-append, List·getD-append}
 use lib.Seq.{getD-append-add, getD-drop, drop-drop, drop-cons, drop-at}
 use Rattle.program.specs.Instruction.{decodeAt, decodedInstruction}
-use Rattle.program.specs.Layout.{CodeSection, codesAt, variablesAt, programOf}
+use Rattle.program.specs.Layout.{CodeSection, variablesAt, programOf}
 use Rattle.program.specs.Limits.{recordsStart, recordOffset}
 use Rattle.program.specs.Internal.Bounds.{lineCount}
 use Rattle.program.specs.Internal.Sections.{SectionTable, noSection, bytesBefore}

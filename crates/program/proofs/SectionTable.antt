@@ -21,7 +21,7 @@ use native.Mathlib.Omega.{arith}
 use lib.ListN.{length, getD, set, drop, length-set}
 use lib.Seq.{getD-drop, drop-drop, getD-set-same, getD-set-other}
 use Rattle.program.specs.Layout.{CodeSection, programOf, codesAt, instructionsAt}
-use Rattle.program.specs.Limits.{recordOffset, reportLimit}
+use Rattle.program.specs.Limits.{recordOffset}
 use Rattle.program.specs.Internal.Bounds.{codeLimit}
 use Rattle.program.specs.Internal.Sections.{Located, SectionTable, noSection, bytesBefore}
 use Rattle.program.specs.Internal.Sound.{SoundFile, SoundSection, SoundSections, countAt}

@@ -6,7 +6,7 @@ use native.Mathlib.Omega.{arith}
 use borrow.Author.Needs.{needs}
 use lib.ListN.{length, getD, take}
 use lib.Seq.{sets}
-use Rattle.program.specs.Limits.{threadLimit, threadSize}
+use Rattle.program.specs.Limits.{threadSize}
 use Rattle.machine.specs.Internal.Kept.{threadsIn, nobody, EightRegisters}
 use Rattle.machine.specs.State.{threadBytes}
 use Rattle.machine.specs.declared.thread.Thread.{Thread}
