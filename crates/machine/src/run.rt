@@ -47,11 +47,15 @@ fn move_by(
     places: &mut [usize; THREAD_LIMIT],
     registers: &mut [[u32; REGISTER_COUNT]; THREAD_LIMIT],
 ) -> Outcome
-    requires { ⌜ FieldsGood lockLimit variableLimit i × (t < threadLimit) × (length (threadsIn (now places) (now registers)) ≡ threadLimit) × (getD (now places) t 0 ≤ largestPlace) ⌝ }
+    requires { ⌜ FieldsGood lockLimit variableLimit i × (t < threadLimit) × (length (threadsIn (now places) (now registers)) ≡ threadLimit)
+        × (getD (now places) t 0 ≤ largestPlace) ⌝ }
     ensures { λ o. ⌜ o ≡ choose (waits (accessOf i) (now (locks .entry))) Outcome.Waiting Outcome.Moved ⌝ }
-    ensures { λ o. ⌜ now (variables .exit) ≡ after o (now (variables .entry)) (variablesAfter (accessOf i) (getD (now (registers .entry)) t []) (now (variables .entry))) ⌝ }
+    ensures { λ o. ⌜ now (variables .exit)
+        ≡ after o (now (variables .entry)) (variablesAfter (accessOf i) (getD (now (registers .entry)) t []) (now (variables .entry))) ⌝ }
     ensures { λ o. ⌜ now (locks .exit) ≡ after o (now (locks .entry)) (locksAfter (accessOf i) t (now (locks .entry))) ⌝ }
-    ensures { λ o. ⌜ threadsIn (now (places .exit)) (now (registers .exit)) ≡ after o (threadsIn (now (places .entry)) (now (registers .entry))) (moveThread i (now (variables .entry)) t (threadsIn (now (places .entry)) (now (registers .entry)))) ⌝ }
+    ensures { λ o. ⌜ threadsIn (now (places .exit)) (now (registers .exit))
+        ≡ after o (threadsIn (now (places .entry)) (now (registers .entry)))
+        (moveThread i (now (variables .entry)) t (threadsIn (now (places .entry)) (now (registers .entry)))) ⌝ }
 {
     let at = t as usize;
     let place = places[at];
@@ -88,9 +92,13 @@ fn step(
     places: &mut [usize; THREAD_LIMIT],
     registers: &mut [[u32; REGISTER_COUNT]; THREAD_LIMIT],
 ) -> Outcome
-    requires { ⌜ (now rows ≡ rowTable) × SectionTable (now s) l (now starts) (now counts) × (t < l .threads) × Kept l (now counts) (now variables) (now locks) (threadsIn (now places) (now registers)) ⌝ }
-    ensures { λ o. ⌜ o ≡ outcome (programOf (now (s .entry)) l) t (stateIn l (now (variables .entry)) (now (locks .entry)) (threadsIn (now (places .entry)) (now (registers .entry)))) ⌝ }
-    ensures { λ o. ⌜ stateIn l (now (variables .exit)) (now (locks .exit)) (threadsIn (now (places .exit)) (now (registers .exit))) ≡ Step.step (programOf (now (s .entry)) l) t (stateIn l (now (variables .entry)) (now (locks .entry)) (threadsIn (now (places .entry)) (now (registers .entry)))) ⌝ }
+    requires { ⌜ (now rows ≡ rowTable) × SectionTable (now s) l (now starts) (now counts) × (t < l .threads)
+        × Kept l (now counts) (now variables) (now locks) (threadsIn (now places) (now registers)) ⌝ }
+    ensures { λ o. ⌜ o ≡ outcome (programOf (now (s .entry)) l) t
+        (stateIn l (now (variables .entry)) (now (locks .entry)) (threadsIn (now (places .entry)) (now (registers .entry)))) ⌝ }
+    ensures { λ o. ⌜ stateIn l (now (variables .exit)) (now (locks .exit)) (threadsIn (now (places .exit)) (now (registers .exit)))
+        ≡ Step.step (programOf (now (s .entry)) l) t
+        (stateIn l (now (variables .entry)) (now (locks .entry)) (threadsIn (now (places .entry)) (now (registers .entry)))) ⌝ }
     ensures { λ o. ⌜ Kept l (now (counts .entry)) (now (variables .exit)) (now (locks .exit)) (threadsIn (now (places .exit)) (now (registers .exit))) ⌝ }
 {
     let at = t as usize;
@@ -115,8 +123,11 @@ fn entries(
     places: &mut [usize; THREAD_LIMIT],
     registers: &mut [[u32; REGISTER_COUNT]; THREAD_LIMIT],
 ) -> Counts
-    requires { ⌜ (now rows ≡ rowTable) × SectionTable (now s) l (now starts) (now counts) × Entries (l .threads) (now list) × Kept l (now counts) (now variables) (now locks) (threadsIn (now places) (now registers)) ⌝ }
-    ensures { λ r. ⌜ runFrom (programOf (now (s .entry)) l) (fromHere l (now (variables .entry)) (now (locks .entry)) (threadsIn (now (places .entry)) (now (registers .entry)))) (now (list .entry)) ≡ record { counts = r; state = stateIn l (now (variables .exit)) (now (locks .exit)) (threadsIn (now (places .exit)) (now (registers .exit))) } ⌝ }
+    requires { ⌜ (now rows ≡ rowTable) × SectionTable (now s) l (now starts) (now counts) × Entries (l .threads) (now list)
+        × Kept l (now counts) (now variables) (now locks) (threadsIn (now places) (now registers)) ⌝ }
+    ensures { λ r. ⌜ runFrom (programOf (now (s .entry)) l)
+        (fromHere l (now (variables .entry)) (now (locks .entry)) (threadsIn (now (places .entry)) (now (registers .entry)))) (now (list .entry))
+        ≡ record { counts = r; state = stateIn l (now (variables .exit)) (now (locks .exit)) (threadsIn (now (places .exit)) (now (registers .exit))) } ⌝ }
     ensures { λ r. ⌜ Kept l (now (counts .entry)) (now (variables .exit)) (now (locks .exit)) (threadsIn (now (places .exit)) (now (registers .exit))) ⌝ }
 {
     let mut waiting: usize = 0;

@@ -76,8 +76,10 @@ fn write_threads(
     places: &[usize; THREAD_LIMIT],
     registers: &[[u32; REGISTER_COUNT]; THREAD_LIMIT],
 )
-    requires { ⌜ (at + threadSize * n ≤ length (now out)) × (n ≤ threadLimit) × (length (threadsIn (now places) (now registers)) ≡ threadLimit) × EightRegisters (threadsIn (now places) (now registers)) ⌝ }
-    ensures { λ r. ⌜ now (out .exit) ≡ sets (now (out .entry)) at (flatMap threadBytes (take n (threadsIn (now (places .entry)) (now (registers .entry))))) ⌝ }
+    requires { ⌜ (at + threadSize * n ≤ length (now out)) × (n ≤ threadLimit)
+        × (length (threadsIn (now places) (now registers)) ≡ threadLimit) × EightRegisters (threadsIn (now places) (now registers)) ⌝ }
+    ensures { λ r. ⌜ now (out .exit)
+        ≡ sets (now (out .entry)) at (flatMap threadBytes (take n (threadsIn (now (places .entry)) (now (registers .entry))))) ⌝ }
 {
     let mut i: usize = 0;
     while i < n {
@@ -100,8 +102,10 @@ pub fn write_state(
     registers: &[[u32; REGISTER_COUNT]; THREAD_LIMIT],
 )
     requires { ⌜ sizeOfState (l .variables) (l .locks) (l .threads) ≤ length (now out) ⌝ }
-    requires { ⌜ (l .variables ≤ length (now variables)) × (l .locks ≤ length (now locks)) × (l .threads ≤ threadLimit) × (length (threadsIn (now places) (now registers)) ≡ threadLimit) × EightRegisters (threadsIn (now places) (now registers)) ⌝ }
-    ensures { λ r. ⌜ now (out .exit) ≡ sets (now (out .entry)) 0 (stateBytes (stateIn l (now (variables .entry)) (now (locks .entry)) (threadsIn (now (places .entry)) (now (registers .entry))))) ⌝ }
+    requires { ⌜ (l .variables ≤ length (now variables)) × (l .locks ≤ length (now locks)) × (l .threads ≤ threadLimit)
+        × (length (threadsIn (now places) (now registers)) ≡ threadLimit) × EightRegisters (threadsIn (now places) (now registers)) ⌝ }
+    ensures { λ r. ⌜ now (out .exit) ≡ sets (now (out .entry)) 0
+        (stateBytes (stateIn l (now (variables .entry)) (now (locks .entry)) (threadsIn (now (places .entry)) (now (registers .entry))))) ⌝ }
 {
     let past_variables = WORD_SIZE * l.variables;
     let past_locks = past_variables + l.locks;

@@ -32,7 +32,7 @@ shared-slice-read-t c = search needs
 add-i : tie.Need-add-i Inv-loop μ-loop
 add-i c = search needs
 
--- `match step(rows, s, l, starts, counts, t, variables, locks, places, registers)`
+-- `match step(`
 step-requires : tie.Need-step-requires Inv-loop μ-loop
 unfolding Entries
 step-requires c κs =
@@ -40,6 +40,7 @@ step-requires c κs =
     let o = c .before .before .before .before .before .before .loop in
     (b .pre .0, b .pre .1, b .pre .2 (o .i) (c .before .before .before .before .before .loop-test .taken), o .inv .2 .kept)
 
+-- `Outcome::Moved => {}`
 enum-told : tie.Need-enum-told Inv-loop μ-loop
 enum-told c = search needs
 
