@@ -137,7 +137,7 @@ element-copy-out-if1 c = does (c .before .before .before) (c .before .k .given .
 -- `return Outcome::Waiting`
 returns : tie.Need-returns
 unfolding Does waits
-returns c = (rw (does (c .before .before .before .before .before) (c .before .before .before .k .given .1) .0 .access, ne-eqb _ _ (c .if1 .taken)), (refl, (refl, refl)))
+returns c = (rw (does (c .before .before .before .before .before) (c .before .before .before .k .given .1) .0 .access, ne-eqb _ 0 (c .if1 .taken)), (refl, (refl, refl)))
 
 -- `locks[n] = t + 1`
 add-locks : tie.Need-add-locks
@@ -186,7 +186,7 @@ moves c =
           rw (x .3, x .4, x .5, x .6, ← d .2) (moves-keeping _ _ _ _ _ _ h (d .1) refl)
       | inr (inr (inr (inl x))) ↦
           rw (x .5, x .6, x .7, x .8)
-          (moves-keeping _ _ _ _ _ _ h (does (c .before) (x .1 .given .1) .0) (rw (eq-eqb _ _ (x .4 .left))))
+          (moves-keeping _ _ _ _ _ _ h (does (c .before) (x .1 .given .1) .0) (rw (eq-eqb _ 0 (x .4 .left))))
       | inr (inr (inr (inr (inl x)))) ↦ rw (x .3, x .4, x .5, x .6) (moves-keeping _ _ _ _ _ _ h (does (c .before) (x .1 .given .1) .0) refl)
       | inr (inr (inr (inr (inr (inl x))))) ↦ rw (x .3, x .4, x .5, x .6) (moves-keeping _ _ _ _ _ _ h (does (c .before) (x .1 .given .1)) refl)
       | inr (inr (inr (inr (inr (inr x))))) ↦ rw (x .2, x .3, x .4, x .5) (moves-keeping _ _ _ _ _ _ h (does (c .before) (x .1 .given .1)) refl)
