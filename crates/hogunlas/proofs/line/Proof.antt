@@ -40,7 +40,7 @@ returns : tie.Need-returns
 returns c =
     let found = as-accepted _ _ _ _ _ _ (c .before .before .before .judging2 .given .1) (c .before .before .before .before .before .before .judge-file .ensures) in
     let counted = c .before .line-count .ensures in
-    rw counted
+    rw (← counted) at
     (line-number (c .before .before .before .before .before .before .before .before .before .before .before .before .before .before .args .file .now) (c .before .before .before .before .before .before .before .before .before .before .before .before .before .before .args .i) (c .before .before .before .before .before .before .before .before .before .before .before .before .before .before .args .out .now) (c .before .before .before .judging2 .given .0 .0) (found .accepted .report) (opened-by found) (rw counted at (c .if1 .taken)))
 
 -- `return Printed::Refused(Refusal::ShortBuffer(LINE_SIZE))`

@@ -17,7 +17,7 @@ use Rattle.program.proofs.layout.fields.Tie as tie
 to-locks : (u : tie.Else1) → fields (u .before .before .before .before .before .before .before .args .s .now) ≡ (byteField (u .before .before .before .before .before .before .before .args .s .now) (u .before .before .f .given .0 .1 .0) >>= afterLocks (u .before .before .before .before .before .before .before .args .s .now))
 unfolding fields
 to-locks u =
-    rw (← u .before .before .before .before .byte-field .ensures, u .before .before .f .given .1, eq-eqb _ _ (u .if1 .left))
+    rw (← u .before .before .before .before .byte-field .ensures, u .before .before .f .given .1, eq-eqb _ 1 (u .if1 .left))
 
 to-threads : (u : tie.Else2) → fields (u .before .before .before .before .before .before .before .before .before .before .before .before .args .s .now) ≡ (byteField (u .before .before .before .before .before .before .before .before .before .before .before .before .args .s .now) (u .before .before .f2 .given .0 .1 .0) >>= afterThreads (u .before .before .before .before .before .before .before .before .before .before .before .before .args .s .now) (u .before .before .f2 .given .0 .0))
 to-threads u =

@@ -1,5 +1,6 @@
 -- `at_opener` meets its contract. Assumes nothing.
-use mathlib.Core.Bool.{_&&_, not, and-eq-true-iff}
+use mathlib.Core.Path.{_≡_}
+use mathlib.Core.Bool.{true, _&&_, not, and-eq-true-iff}
 use lib.Dec.{ltb, eqb}
 use borrow.Author.Tests.{ltb-true}
 use Rattle.program.specs.Limits.{entryLimit}
@@ -12,9 +13,10 @@ returns : tie.Need-returns
 unfolding opening
 returns c p es u d =
     let a = c .before .args in
+    let opens : (a .unnamed && not (eqb (a .n) 0) && ltb (a .depth) entryLimit) ≡ true = c .if1 .taken in
     record {
-      does = rw (u, d, c .if1 .taken);
-      room = rw d (ltb-true (a .depth) entryLimit (and-eq-true-iff (a .unnamed && not (eqb (a .n) 0)) (ltb (a .depth) entryLimit) .0 (c .if1 .taken) .1));
+      does = rw (u, d, opens);
+      room = rw d (ltb-true (a .depth) entryLimit (and-eq-true-iff (a .unnamed && not (eqb (a .n) 0)) (ltb (a .depth) entryLimit) .0 opens .1));
     }
 
 -- `Turn::Broken`
