@@ -35,10 +35,10 @@ returns c =
 
 -- `bytes::copy(&report[..n], out)`
 array-share-prefix-report : tie.Need-array-share-prefix-report
-array-share-prefix-report c = let found = as-accepted _ _ _ _ _ _ (c .before .before .judging2 .given .1) (c .before .before .before .before .before .judge-file .ensures) in report-within found
+array-share-prefix-report c = let found = as-accepted _ _ _ _ _ _ (c .before .before .judging2 .given .1) (c .before .before .before .before .before .judge-file .ensures) in omega (arith, report-within found)
 
 slice-aggregate-copy : tie.Need-slice-aggregate-copy
-slice-aggregate-copy c = let found = as-accepted _ _ _ _ _ _ (c .before .before .before .judging2 .given .1) (c .before .before .before .before .before .before .judge-file .ensures) in report-front-length found
+slice-aggregate-copy c = let found = as-accepted _ _ _ _ _ _ (c .before .before .before .judging2 .given .1) (c .before .before .before .before .before .before .judge-file .ensures) in omega (arith, report-front-length found)
 
 copy-requires : tie.Need-copy-requires
 copy-requires c κs =

@@ -5,8 +5,9 @@ use mathlib.Core.Path.{_≡_, sym, _∙_}
 use native.Mathlib.Omega.{arith}
 use borrow.Author.Needs.{needs}
 use lib.ListN.{length}
-use Rattle.machine.specs.Run.{Entries}
+use Rattle.machine.specs.Run.{Entries, counted}
 use Rattle.machine.specs.Internal.Kept.{threadsIn}
+use Rattle.machine.specs.declared.thread.Outcome.{Outcome}
 use Rattle.machine.proofs.Between.{Between, between-start, between-next, between-end}
 use Rattle.machine.proofs.run.entries.Statement.{statement}
 use Rattle.machine.proofs.run.entries.Tie as tie
@@ -20,6 +21,24 @@ Inv-loop rows s l starts counts list variables₀ locks₀ places₀ registers�
 abbrev μ-loop : tie.MeasureT-loop
 μ-loop rows s l starts counts list variables₀ locks₀ places₀ registers₀ waiting₀ idle₀ i₀ variables locks places registers waiting idle i =
     length list - i
+
+-- where a step is done: the invariant past this entry
+module _ (c : tie.After-step Inv-loop μ-loop) where
+  abbrev start : tie.Start Inv-loop μ-loop
+  start = c .before .before .before .before .before .before .before .before .before .before .before
+
+  past : {o : Outcome} → c .step .result ≡ o
+      → let loop = c .before .before .before .before .before .before .before .loop in
+      let after = c .step .last .1 .1 .1 .1 .1 .1 in
+      let counts = counted o (record { moved = loop .inv .2 .moved; waiting = loop .waiting; idle = loop .idle }) in
+      Inv-loop (start .args .rows .now) (start .args .s .now) (start .args .l) (start .args .starts .now) (start .args .counts .now) (start .args .list .now)
+      (start .args .variables .now) (start .args .locks .now) (start .args .places .now) (start .args .registers .now) 0 0 0
+      (after .0) (after .1 .0) (after .1 .1 .0) (after .1 .1 .1 .0) (counts .waiting) (counts .idle) (loop .i + 1)
+  past e =
+      let taken = c .before .before .before .before .before .before .loop-test .taken in
+      let does = c .step .ensures in
+      let x = between-next (c .before .before .before .before .before .before .before .loop .inv .2) taken (sym e ∙ does .0) (does .1 .0) (does .1 .1) in
+      (omega (arith, taken), omega (arith, x .total), x)
 
 loop-holds : tie.Need-loop-holds Inv-loop μ-loop
 loop-holds c = (search needs, search needs, between-start _ _ (c .before .before .before .pre .3))
@@ -48,13 +67,7 @@ loop-less : tie.Need-loop-less Inv-loop μ-loop
 loop-less c = search needs
 
 loop-again : tie.Need-loop-again Inv-loop μ-loop
-loop-again c =
-    let o = c .before .before .before .before .before .before .before .before .before .loop in
-    let e = c .before .before .step .ensures in (
-      omega (arith, c .before .before .before .before .before .before .before .before .loop-test .taken),
-      omega (arith, o .inv .1),
-      between-next (o .inv .2) (c .before .before .before .before .before .before .before .before .loop-test .taken) (sym (c .enum-told .given .1) ∙ e .0) (e .1 .0) (e .1 .1),
-    )
+loop-again c = past (c .before .before) (c .enum-told .given .1)
 
 -- `Outcome::Waiting => waiting += 1`
 enum-told-2 : tie.Need-enum-told-2 Inv-loop μ-loop
@@ -67,13 +80,7 @@ loop-less-2 : tie.Need-loop-less-2 Inv-loop μ-loop
 loop-less-2 c = search needs
 
 loop-again-2 : tie.Need-loop-again-2 Inv-loop μ-loop
-loop-again-2 c =
-    let o = c .before .before .before .before .before .before .before .before .before .loop in
-    let e = c .before .before .step .ensures in (
-      omega (arith, c .before .before .before .before .before .before .before .before .loop-test .taken),
-      omega (arith, o .inv .1),
-      between-next (o .inv .2) (c .before .before .before .before .before .before .before .before .loop-test .taken) (sym (c .enum-told2 .given .1) ∙ e .0) (e .1 .0) (e .1 .1),
-    )
+loop-again-2 c = past (c .before .before) (c .enum-told2 .given .1)
 
 -- `Outcome::Idle => idle += 1`
 enum-told-3 : tie.Need-enum-told-3 Inv-loop μ-loop
@@ -86,13 +93,7 @@ loop-less-3 : tie.Need-loop-less-3 Inv-loop μ-loop
 loop-less-3 c = search needs
 
 loop-again-3 : tie.Need-loop-again-3 Inv-loop μ-loop
-loop-again-3 c =
-    let o = c .before .before .before .before .before .before .before .before .before .loop in
-    let e = c .before .before .step .ensures in (
-      omega (arith, c .before .before .before .before .before .before .before .before .loop-test .taken),
-      omega (arith, o .inv .1),
-      between-next (o .inv .2) (c .before .before .before .before .before .before .before .before .loop-test .taken) (sym (c .enum-told3 .given .1) ∙ e .0) (e .1 .0) (e .1 .1),
-    )
+loop-again-3 c = past (c .before .before) (c .enum-told3 .given .1)
 
 -- `let moved = list.len() - waiting - idle`
 sub-moved : tie.Need-sub-moved Inv-loop μ-loop
