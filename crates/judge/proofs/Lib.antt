@@ -11,6 +11,7 @@
 --     ScanLoop        the loop over one code
 --     CodeLoop        the loop over the codes
 --     Accepting       from the scan to what judging a file answers
+--     Legal           the lock discipline of judging is that of the rules
 --     Rules, RulesProgram, RulesFile
 --                     judging code, a program and a file is deriving by the rules
 pub mod Definitions
@@ -25,6 +26,7 @@ pub mod NestedSections
 pub mod ScanLoop
 pub mod CodeLoop
 pub mod Accepting
+pub mod Legal
 pub mod Rules
 pub mod RulesProgram
 pub mod RulesFile

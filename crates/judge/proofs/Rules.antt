@@ -1,6 +1,5 @@
 -- Judging code is deriving by the rules (`specs/Rules.antt`).
 --     not-top, top-not           a block's test, and its rule's side condition
---     locks-anywhere             the lock discipline asks for no offset
 --     judge-typed                what judging finds has a derivation
 --     typed-judge                what has a derivation, judging finds, its report included
 --     judge-report               the derivation that judging finds has the report that judging makes
@@ -16,20 +15,19 @@ use lib.Dec.{eqb}
 use Rattle.atomicity.specs.Atomicity.{reportByte}
 use Rattle.atomicity.specs.declared.Atomicity.{Atomicity}
 use Rattle.atomicity.specs.declared.Atomicity.the-variants as atomicity
-use Rattle.program.specs.View.{Access, none, reads, writes, takes, gives, accessOf}
-use Rattle.program.specs.Answer.{Answer, fine, require}
+use Rattle.program.specs.View.{accessOf}
+use Rattle.program.specs.Answer.{fine}
 use Rattle.program.specs.Code.{Code, done, plain, choice, loop, block, size}
 use Rattle.program.specs.Layout.{Program}
 use Rattle.program.specs.Internal.WellFormed.{WellFormed}
-use Rattle.program.specs.declared.instruction.Instruction.{Instruction}
-use Rattle.program.specs.declared.refusal.Refusal.{Refusal}
 use Rattle.program.proofs.Answer.{fine-inj, bind-inv, require-inv, bind-on, require-on}
 use Rattle.program.proofs.Differ.{differ}
-use Rattle.judge.specs.Discipline.{permits, kindAt, accessedSet, lockSetAfter}
+use Rattle.judge.specs.Discipline.{lockSetAfter}
 use Rattle.judge.specs.Judging.{Finding, isTop, judge}
-use Rattle.judge.specs.LockSet.{holds, same}
+use Rattle.judge.specs.LockSet.{same}
 use Rattle.judge.specs.Rules.{Typed, typed-done, typed-plain, typed-choice, typed-loop, typed-block, report}
 use Rattle.judge.specs.declared.lock_set.LockSet.{LockSet}
+use Rattle.judge.proofs.Legal.{judged-legal, legal-judged}
 use Rattle.judge.proofs.LockSets.{same-eq, same-self}
 
 -- ---- the side conditions
@@ -48,26 +46,7 @@ top-not atomicity.Right n = refl
 top-not atomicity.Atomic n = refl
 top-not atomicity.Top n = absurd (n refl)
 
--- another refusal behind the test: what is fine does not differ
-require-anywhere : {A : Type 0} (ok : Bool) (r q : Refusal) (x : Answer A) {a : A} → require ok r x ≡ fine a → require ok q x ≡ fine a
-require-anywhere ok r q x e = require-inv ok r x e λ h f. require-on ok q x h f
-
 module _ (p : Program) (t : ℕ) where
-  -- the lock discipline asks for no offset
-  access-anywhere : (x : Access) (d d′ : ℕ) (s : LockSet) {s′ : LockSet} → accessedSet p t d x s ≡ fine s′
-      → accessedSet p t d′ x s ≡ fine s′
-  unfolding accessedSet
-  access-anywhere none d d′ s e = e
-  access-anywhere (reads v) d d′ s e = require-anywhere (permits (kindAt p v) t s false) _ _ _ e
-  access-anywhere (writes v a) d d′ s e = require-anywhere (permits (kindAt p v) t s true) _ _ _ e
-  access-anywhere (takes k) d d′ s e = require-anywhere (not (holds s k)) _ _ _ e
-  access-anywhere (gives k) d d′ s e = require-anywhere (holds s k) _ _ _ e
-
-  pub locks-anywhere : (i : Instruction) (d d′ : ℕ) (s : LockSet) {s′ : LockSet} → lockSetAfter p t d i s ≡ fine s′
-      → lockSetAfter p t d′ i s ≡ fine s′
-  unfolding lockSetAfter
-  locks-anywhere i = access-anywhere (accessOf i)
-
   -- ---- from judging to a derivation
 
   typed-found : {s : LockSet} {c : Code} (j r : Finding) → fine j ≡ fine r → Typed p t s c (j .locks) (j .atomicity)
@@ -77,12 +56,12 @@ module _ (p : Program) (t : ℕ) where
   -- what judging finds has a derivation
   pub judge-typed : (c : Code) → WellFormed c → (d : ℕ) (s : LockSet) {r : Finding} → judge p t d s c ≡ fine r
       → Typed p t s c (r .locks) (r .atomicity)
-  unfolding judge WellFormed
+  unfolding judge lockSetAfter WellFormed
   judge-typed done w d s e = typed-found _ _ e typed-done
   judge-typed (plain i c) w d s e =
       bind-inv (lockSetAfter p t d i s) _ e λ s′ e₁ f₁.
       bind-inv (judge p t (d + 4) s′ c) _ f₁ λ rest e₂ f₂.
-      typed-found _ _ f₂ (typed-plain (w .0) (record { offset = d; judged = e₁ }) (judge-typed c (w .1) (d + 4) s′ e₂))
+      typed-found _ _ f₂ (typed-plain (w .0) (judged-legal p t (accessOf i) d s e₁) (judge-typed c (w .1) (d + 4) s′ e₂))
   judge-typed (choice r a b c) w d s e =
       bind-inv (judge p t (d + 4) s a) _ e λ first e₁ f₁.
       bind-inv (judge p t (d + 4 + 4 * size a + 4) s b) _ f₁ λ second e₂ f₂.
@@ -111,10 +90,10 @@ module _ (p : Program) (t : ℕ) where
   -- what has a derivation, judging finds, at any offset
   pub typed-judge : {s s′ : LockSet} {c : Code} {a : Atomicity} (D : Typed p t s c s′ a) (d : ℕ)
       → judge p t d s c ≡ fine (record { locks = s′; atomicity = a; report = report D })
-  unfolding judge report
+  unfolding judge lockSetAfter report
   typed-judge typed-done d = refl
   typed-judge (typed-plain {i = i} {next = c} {s = s} {s′ = s′} f l rest) d =
-      bind-on (lockSetAfter p t d i s) _ (locks-anywhere i (l .offset) d s (l .judged))
+      bind-on (lockSetAfter p t d i s) _ (legal-judged p t l d)
       (bind-on (judge p t (d + 4) s′ c) _ (typed-judge rest (d + 4)) refl)
   typed-judge (typed-choice {a = a} {b = b} {next = c} {s = s} {s′ = s′} first second rest) d =
       bind-on (judge p t (d + 4) s a) _ (typed-judge first (d + 4))

@@ -2,7 +2,7 @@
 -- "Worthless versions": "acceptance exactly when the rules hold").
 --     sound-codes-nested                a sound file's code is well nested
 --     accept-judged                     an accepted file is a sound one whose program is judged fine
---     accept-exactly                    an accepted file: its program and its report
+--     demand2                           demand 2, of judging
 --     accepted-exactly                  a sound file is accepted exactly when a derivation exists
 -- Assumes nothing.
 use Prim.Native.Nat.{ℕ}
@@ -14,6 +14,7 @@ use Rattle.program.specs.Layout.{Program, programOf, reading}
 use Rattle.program.proofs.Answer.{fine-inj, bind-inv, bind-on}
 use Rattle.program.proofs.Sound.{sound-file}
 use Rattle.judge.specs.Acceptance.{Accepted, sound, accept}
+use Rattle.judge.specs.Demand.{Demand2}
 use Rattle.judge.specs.Judging.{judgeProgram}
 use Rattle.judge.specs.Rules.{TypedProgram, programReport}
 use Rattle.judge.specs.Internal.Nested.{Nested}
@@ -48,20 +49,18 @@ accept-judged s a = (
 )
 
 -- an accepted file is a sound one whose program has a derivation, and its report is the derivation's
-pub accept-exactly : (s : List ℕ) (a : Accepted)
-    → (accept s ≡ fine a) ↔ ((sound s ≡ fine (a .program)) × (D : TypedProgram (a .program)) × (programReport D ≡ a .report))
-accept-exactly s a = (
-  (λ e.
-      let (e₁, e₂) = accept-judged s a .0 e in
-      let (D, reported) = program-exactly (a .program) (sound-codes-nested s e₁) (a .report) .0 e₂ in
-      (e₁, D, reported)),
-  λ h. accept-judged s a .1 (h .0, program-exactly (a .program) (sound-codes-nested s (h .0)) (a .report) .1 (h .1, h .2)),
+pub demand2 : (s : List ℕ) → Demand2 s
+unfolding Demand2
+demand2 s a = (
+  (λ e. let (e₁, e₂) = accept-judged s a .0 e in (e₁, program-exactly (a .program) (sound-codes-nested s e₁) (a .report) .0 e₂)),
+  λ h. accept-judged s a .1 (h .0, program-exactly (a .program) (sound-codes-nested s (h .0)) (a .report) .1 (h .1)),
 )
 
 -- a sound file is accepted exactly when a derivation of its program exists
 pub accepted-exactly : (s : List ℕ) (p : Program) → sound s ≡ fine p
     → ((bytes : List ℕ) × (accept s ≡ fine (record { program = p; report = bytes }))) ↔ TypedProgram p
+unfolding Demand2
 accepted-exactly s p e = (
-  (λ h. accept-exactly s (record { program = p; report = h .0 }) .0 (h .1) .1),
-  λ D. (programReport D, accept-exactly s (record { program = p; report = programReport D }) .1 (e, D, refl)),
+  (λ h. demand2 s (record { program = p; report = h .0 }) .0 (h .1) .1 .0),
+  λ D. (programReport D, demand2 s (record { program = p; report = programReport D }) .1 (e, (D, refl))),
 )

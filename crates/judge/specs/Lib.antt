@@ -4,10 +4,12 @@
 --     Judging     the rules over structured code, and the report
 --     Rules       the rules as derivations
 --     Acceptance  sound and accepted files
+--     Demand      accepted exactly when the rules derive it
 -- Internal holds what only proofs and inner functions use.
 pub mod LockSet
 pub mod Discipline
 pub mod Judging
 pub mod Rules
 pub mod Acceptance
+pub mod Demand
 pub mod Internal

@@ -1,30 +1,49 @@
 -- The rules of judging as derivations (source 003, section 3: its figure of rules; document 01, "Lock discipline", "Atomicities").
 -- What judging finds is exactly what these rules derive (`proofs/Rules.antt`); they speak of no offset and of no order of offences.
 --
--- In order: the rules, one for each construct; the report of a derivation; a code, and a program.
+-- In order: the lock discipline, a rule for each access and kind of variable; the rules, one for each construct; the report of a
+-- derivation; a code, and a program.
 use Prim.Native.Nat.{ℕ, suc}
 use mathlib.Core.Path.{_≡_}
 use mathlib.Core.Logic.{_≢_}
+use mathlib.Core.Bool.{true, false}
 use mathlib.Core.List.{List, [], _∷_, _++_}
 use Rattle.atomicity.specs.Atomicity.{reportByte, composition, join, closure}
 use Rattle.atomicity.specs.declared.Atomicity.{Atomicity}
 use Rattle.atomicity.specs.declared.Atomicity.the-variants.{Both, Top}
-use Rattle.program.specs.Answer.{fine}
 use Rattle.program.specs.Code.{Code, done, plain, choice, loop, block, structured}
-use Rattle.program.specs.View.{formOf, Plain}
+use Rattle.program.specs.View.{Access, none, reads, writes, takes, gives, accessOf, formOf, Plain}
 use Rattle.program.specs.Layout.{Program, CodeSection}
 use Rattle.program.specs.declared.instruction.Instruction.{Instruction}
-use Rattle.judge.specs.Discipline.{lockSetAfter, atomicityOf}
-use Rattle.judge.specs.LockSet.{empty}
+use Rattle.program.specs.declared.variable.Kind.the-variants.{Guarded, Own, Fixed, Open}
+use Rattle.judge.specs.Discipline.{kindAt, atomicityOf}
+use Rattle.judge.specs.LockSet.{empty, holds, withLock, withoutLock}
 use Rattle.judge.specs.declared.lock_set.LockSet.{LockSet}
 
--- ---- the rules
+-- ---- the lock discipline
 
--- the instruction keeps the lock discipline and leads from the lock set s to s′. An offset is named, since an offence has one; which
--- one does not matter (`locks-anywhere`)
-pub record Legal (p : Program) (c : ℕ) (i : Instruction) (s s′ : LockSet) : Type 0 where
-  pub offset : ℕ
-  pub judged : lockSetAfter p c offset i s ≡ fine s′
+-- `Legal p c x s s′`: the access x of code c keeps the lock discipline with the lock set s, and leads to s′. A rule for each access
+-- and kind of variable; a WRITE of a fixed one has none
+pub data Legal (p : Program) (c : ℕ) : Access → LockSet → LockSet → Type 0 where
+  -- an instruction that accesses nothing
+  legal-none : {s : LockSet} → Legal p c none s s
+  -- "A guarded variable is read or written only with its lock in the set"
+  legal-read-guarded : {v g : ℕ} {s : LockSet} → kindAt p v ≡ Guarded g → holds s g ≡ true → Legal p c (reads v) s s
+  legal-write-guarded : {v a g : ℕ} {s : LockSet} → kindAt p v ≡ Guarded g → holds s g ≡ true → Legal p c (writes v a) s s
+  -- "an own one only by its thread"
+  legal-read-own : {v : ℕ} {s : LockSet} → kindAt p v ≡ Own c → Legal p c (reads v) s s
+  legal-write-own : {v a : ℕ} {s : LockSet} → kindAt p v ≡ Own c → Legal p c (writes v a) s s
+  -- "a fixed one is never written"
+  legal-read-fixed : {v : ℕ} {s : LockSet} → kindAt p v ≡ Fixed → Legal p c (reads v) s s
+  -- "an open one freely"
+  legal-read-open : {v : ℕ} {s : LockSet} → kindAt p v ≡ Open → Legal p c (reads v) s s
+  legal-write-open : {v a : ℕ} {s : LockSet} → kindAt p v ≡ Open → Legal p c (writes v a) s s
+  -- "TAKE adds its lock", which is not in the set
+  legal-take : {k : ℕ} {s : LockSet} → holds s k ≡ false → Legal p c (takes k) s (withLock s k)
+  -- "GIVE takes it out", and it is in the set
+  legal-give : {k : ℕ} {s : LockSet} → holds s k ≡ true → Legal p c (gives k) s (withoutLock s k)
+
+-- ---- the rules
 
 -- `Typed p c s x s′ a`: the part x of code c leads from the lock set s to s′ and has atomicity a. Each construct is composed with what
 -- follows it
@@ -33,7 +52,7 @@ pub data Typed (p : Program) (c : ℕ) : LockSet → Code → LockSet → Atomic
   typed-done : {s : LockSet} → Typed p c s done s Both
   -- a plain instruction that keeps the lock discipline
   typed-plain : {i : Instruction} {next : Code} {s s′ s″ : LockSet} {a : Atomicity}
-      → formOf i ≡ Plain → Legal p c i s s′ → Typed p c s′ next s″ a
+      → formOf i ≡ Plain → Legal p c (accessOf i) s s′ → Typed p c s′ next s″ a
       → Typed p c s (plain i next) s″ (composition (atomicityOf p c s i) a)
   -- "IF is the join of its two parts"; they "start with the set at the IF and must end with equal sets"
   typed-choice : {r : ℕ} {a b next : Code} {s s′ s″ : LockSet} {x y z : Atomicity}

@@ -3,15 +3,14 @@
 --     begun           typed code is begun as its labels say
 --     flow            and each of its moves follows
 use Prim.Native.Nat.{ℕ, _+_}
-use mathlib.Core.Path.{_≡_, refl, sym, ap, _∙_, subst}
+use mathlib.Core.Path.{_≡_, refl, sym, subst}
 use Rattle.atomicity.specs.Atomicity.{composition, join, closure}
 use Rattle.atomicity.specs.declared.Atomicity.{Atomicity}
 use Rattle.atomicity.specs.declared.Atomicity.the-variants.{Both}
-use Rattle.judge.specs.Discipline.{accessedSet, lockSetAfter, accessMover, moverOf, atomicityOf}
-use Rattle.judge.specs.Rules.{Legal, Typed, typed-done, typed-plain, typed-choice, typed-loop, typed-block}
+use Rattle.judge.specs.Discipline.{accessMover, moverOf, atomicityOf}
+use Rattle.judge.specs.Rules.{Legal, legal-none, Typed, typed-done, typed-plain, typed-choice, typed-loop, typed-block}
 use Rattle.judge.specs.declared.lock_set.LockSet.{LockSet}
 use Rattle.program.specs.View.{Access, none, accessOf}
-use Rattle.program.specs.Answer.{fine}
 use Rattle.program.specs.Code.{Code, size}
 use Rattle.program.specs.Layout.{Program}
 use Rattle.program.specs.declared.instruction.Instruction.{Instruction}
@@ -56,9 +55,9 @@ module _ {p : Program} {t : ℕ} where
   -- of an opener or closer, which accesses nothing: it keeps the lock set, and is B
   silent : (i : Instruction) (o : Condition) {s : LockSet} {m : Prefix} {to : Label} → accessOf i ≡ none → s ≡ to .locks → Goes Both m (to .prefix)
       → Follows p t (edge i (label s m) o to)
-  unfolding lockSetAfter accessedSet moverOf accessMover
+  unfolding moverOf accessMover
   silent i o {s} {m} {to} e k g = record {
-    legal = record { offset = 0; judged = ap (λ (x : Access). accessedSet p t 0 x s) e ∙ ap fine k };
+    legal = subst (Legal p t (accessOf i) s) k (rw e legal-none);
     goes = subst (λ (x : Access). Goes (accessMover p t s x) m (to .prefix)) (sym e) g;
   }
 
@@ -68,10 +67,10 @@ module _ {p : Program} {t : ℕ} where
   goes-on-silent i o {m} e h k = silent i o e (k .same-locks) (goes-behind m (rw (behind-both m) (k .below)) (rw (behind-both m) h))
 
   -- a plain instruction
-  straight-on : {i : Instruction} {s s′ : LockSet} {m : Prefix} {to : Label} → Legal p t i s s′ → Proper (behind m (atomicityOf p t s i))
+  straight-on : {i : Instruction} {s s′ : LockSet} {m : Prefix} {to : Label} → Legal p t (accessOf i) s s′ → Proper (behind m (atomicityOf p t s i))
       → Leads s′ (behind m (atomicityOf p t s i)) to → Follows p t (edge i (label s m) always to)
   unfolding atomicityOf
-  straight-on {i} {s} {m} l h k = record { legal = subst (Legal p t i s) (k .same-locks) l; goes = goes-behind m (k .below) h }
+  straight-on {i} {s} {m} l h k = record { legal = subst (Legal p t (accessOf i) s) (k .same-locks) l; goes = goes-behind m (k .below) h }
 
   -- ---- every move
 

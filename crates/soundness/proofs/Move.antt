@@ -110,7 +110,7 @@ module _ (p : Program) (A : ThreadsAnnotated p) where
         subst (Arrives (Follows p t) (A t .labelFrom outer) (length (codeOf p t)) (rowOf p A g t) registers) (sym place-moved)
         (A t .flows outer proper-outer (placeOf p A g t) in-code registers)
 
-    legal : Legal p t (nextInstruction p g t) (labelOf p A g t .locks) (labelOf p A (movedNamed p t g) t .locks)
+    legal : Legal p t (nextAccess p g t) (labelOf p A g t .locks) (labelOf p A (movedNamed p t g) t .locks)
     legal = arrives .along .legal
 
     -- what its ends say of the move
@@ -118,7 +118,7 @@ module _ (p : Program) (A : ThreadsAnnotated p) where
     goes = arrives .along .goes
 
     pub permitted : Permitted p t (labelOf p A g t .locks) (nextAccess p g t)
-    permitted = legal-permitted (nextInstruction p g t) legal
+    permitted = legal-permitted legal
 
     pub access-below : AccessBelow (length (g .machine .locks)) (length (p .variables)) (nextAccess p g t)
     unfolding instructionOf
@@ -126,7 +126,7 @@ module _ (p : Program) (A : ThreadsAnnotated p) where
 
     owns-mine : Owns t (labelOf p A (movedNamed p t g) t .locks) (locksAfter (nextAccess p g t) t (g .machine .locks))
     owns-mine =
-        subst (λ (s : LockSet). Owns t s (locksAfter (nextAccess p g t) t (g .machine .locks))) (legal-set (nextInstruction p g t) legal)
+        subst (λ (s : LockSet). Owns t s (locksAfter (nextAccess p g t) t (g .machine .locks))) (legal-set legal)
         (owns-moved (inv .owns t) (nextAccess p g t) permitted access-below)
 
     -- the invariant holds afterwards

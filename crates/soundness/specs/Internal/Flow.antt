@@ -11,6 +11,7 @@ use Rattle.judge.specs.Discipline.{moverOf, atomicityOf}
 use Rattle.judge.specs.Rules.{Legal, Typed, typed-done, typed-plain, typed-choice, typed-loop, typed-block}
 use Rattle.judge.specs.declared.lock_set.LockSet.{LockSet}
 use Rattle.program.specs.Code.{Code}
+use Rattle.program.specs.View.{accessOf}
 use Rattle.program.specs.Layout.{Program}
 use Rattle.soundness.specs.Internal.Labelled.{Tree, done, plain, choice, loop, block, Row, Edge}
 use Rattle.soundness.specs.Internal.Prefix.{Prefix, behind, entered, Below, Goes}
@@ -41,7 +42,7 @@ moverAt p t r = moverOf p t (r .label .locks) (r .instruction)
 
 -- thread t's move along the edge keeps the lock discipline, and its mover fits the prefixes of its ends
 pub record Follows (p : Program) (t : ℕ) (e : Edge Label) : Type 0 where
-  pub legal : Legal p t (e .from .instruction) (e .from .label .locks) (e .to .locks)
+  pub legal : Legal p t (accessOf (e .from .instruction)) (e .from .label .locks) (e .to .locks)
   pub goes : Goes (moverAt p t (e .from)) (e .from .label .prefix) (e .to .prefix)
 
 -- code that ends with this lock set and prefix may go on at the label
