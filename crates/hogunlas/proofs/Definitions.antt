@@ -5,8 +5,8 @@ use Rattle.judge.proofs.Definitions.{judging-definitions}
 use Rattle.machine.proofs.Definitions.{running-definitions}
 use Rattle.printout.proofs.Definitions.{printing-definitions}
 use Rattle.hogunlas.specs.Calls.{laidOver, judgeAnswer, judgeBuffer, stateSize, runAnswer, runBuffer, lineAnswer, lineBuffer, benchOutput}
-use Rattle.hogunlas.specs.Cases.{reportNumbers, runNumbers}
+use Rattle.hogunlas.specs.Cases.{judgeSays, runSays}
 
 unfoldable pub definitions : Unit {0}
-unfolding judging-definitions running-definitions printing-definitions flatten laidOver judgeAnswer judgeBuffer stateSize runAnswer runBuffer lineAnswer lineBuffer benchOutput reportNumbers runNumbers
+unfolding judging-definitions running-definitions printing-definitions flatten laidOver judgeAnswer judgeBuffer stateSize runAnswer runBuffer lineAnswer lineBuffer benchOutput judgeSays runSays
 definitions = tt

@@ -14,7 +14,7 @@ use Rattle.machine.specs.Run.{run}
 use Rattle.machine.specs.State.{start}
 use Rattle.printout.specs.Text.{ascii}
 use Rattle.hogunlas.specs.Calls.{benchOutput}
-use Rattle.hogunlas.specs.Cases.{reportNumbers, file, guardedVariable, TAKE, GIVE, READ, ATOMIC, END}
+use Rattle.hogunlas.specs.Cases.{numbers, refusal, judgeSays, file, guardedVariable, TAKE, GIVE, READ, ATOMIC, END}
 use Rattle.hogunlas.proofs.Definitions.{definitions}
 
 -- "Given .. it prints exactly": the example file and its ten lines
@@ -39,7 +39,7 @@ unfolding definitions
 empty-list p = refl
 
 -- "READ put before TAKE: 9 at 13"
-pub read-before-take : reportNumbers (file guardedVariable (READ ++ TAKE ++ GIVE)) ≡ 9 ∷ 13 ∷ []
+pub read-before-take : judgeSays (file guardedVariable (READ ++ TAKE ++ GIVE)) ≡ refusal 9 13
 unfolding definitions
 read-before-take = refl
 
@@ -49,11 +49,11 @@ nested zero = []
 nested (suc k) = ATOMIC (k + k + 1) ++ nested k ++ END
 
 -- "16 entries open pass, the 17th gives 8", at the 17th ATOMIC, whose offset is 13 + 4 * 16
-pub sixteen-open : reportNumbers (file guardedVariable (nested 16)) ≡ replicate 16 1 ++ replicate 16 0 ++ 1 ∷ []
+pub sixteen-open : judgeSays (file guardedVariable (nested 16)) ≡ numbers (replicate 16 1 ++ replicate 16 0 ++ 1 ∷ [])
 unfolding definitions
 sixteen-open = refl
 
-pub seventeen-open : reportNumbers (file guardedVariable (nested 17)) ≡ 8 ∷ 77 ∷ []
+pub seventeen-open : judgeSays (file guardedVariable (nested 17)) ≡ refusal 8 77
 unfolding definitions
 seventeen-open = refl
 
@@ -64,11 +64,11 @@ abbrev AGAIN : ℕ → List ℕ
 AGAIN n = 0x33 ∷ 0x00 ∷ 0x00 ∷ n ∷ []
 
 -- "A WHILE around TAKE, GIVE: T outside a block, 13 within one"
-pub while-outside : reportNumbers (file guardedVariable (WHILE 3 ++ TAKE ++ GIVE ++ AGAIN 3)) ≡ 5 ∷ 3 ∷ 2 ∷ 0 ∷ 5 ∷ []
+pub while-outside : judgeSays (file guardedVariable (WHILE 3 ++ TAKE ++ GIVE ++ AGAIN 3)) ≡ numbers (5 ∷ 3 ∷ 2 ∷ 0 ∷ 5 ∷ [])
 unfolding definitions
 while-outside = refl
 
-pub while-within : reportNumbers (file guardedVariable (ATOMIC 5 ++ WHILE 3 ++ TAKE ++ GIVE ++ AGAIN 3 ++ END)) ≡ 13 ∷ 33 ∷ []
+pub while-within : judgeSays (file guardedVariable (ATOMIC 5 ++ WHILE 3 ++ TAKE ++ GIVE ++ AGAIN 3 ++ END)) ≡ refusal 13 33
 unfolding definitions
 while-within = refl
 
@@ -79,11 +79,11 @@ abbrev ELSE : ℕ → List ℕ
 ELSE n = 0x31 ∷ 0x00 ∷ 0x00 ∷ n ∷ []
 
 -- "keeping the then part's locks for the else part": the ELSE part begins with the set at the IF, so its GIVE is 11 at the GIVE
-pub else-part-locks : reportNumbers (file guardedVariable (IF 2 ++ TAKE ++ ELSE 2 ++ GIVE ++ END)) ≡ 11 ∷ 25 ∷ []
+pub else-part-locks : judgeSays (file guardedVariable (IF 2 ++ TAKE ++ ELSE 2 ++ GIVE ++ END)) ≡ refusal 11 25
 unfolding definitions
 else-part-locks = refl
 
 -- and two parts that end with different sets are 12 at the IF's END
-pub parts-differ : reportNumbers (file guardedVariable (IF 2 ++ TAKE ++ ELSE 1 ++ END ++ GIVE)) ≡ 12 ∷ 25 ∷ []
+pub parts-differ : judgeSays (file guardedVariable (IF 2 ++ TAKE ++ ELSE 1 ++ END ++ GIVE)) ≡ refusal 12 25
 unfolding definitions
 parts-differ = refl

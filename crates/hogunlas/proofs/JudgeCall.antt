@@ -2,6 +2,7 @@
 --     as-accepted, as-refused    what judge_file says, once its answer is known
 --     report-front, report-within, report-front-length
 --                                the report at the front of the buffer that judge_file was lent
+--     Answers                    what judge's contract says
 --     judge-refused              the file is refused
 --     judge-short                the buffer is too short for the report
 --     judge-done                 the report is copied over the buffer
@@ -13,6 +14,8 @@ use lib.Seq.{take-at, take-length}
 use native.Mathlib.Omega.{arith}
 use borrow.Author.Tests.{le-leb, lt-leb}
 use Rattle.judge.specs.Acceptance.{accept}
+use Rattle.judge.specs.Demand.{Demand2}
+use Rattle.judge.proofs.RulesFile.{demand2}
 use Rattle.judge.specs.Internal.Judgement.{AcceptedAs, Judgement}
 use Rattle.judge.specs.declared.judging.Judging.{Judging}
 use Rattle.judge.specs.declared.judging.Judging.the-variants as judging
@@ -21,6 +24,7 @@ use Rattle.program.specs.declared.layout.Layout.{Layout}
 use Rattle.program.specs.declared.refusal.Refusal.{Refusal}
 use Rattle.program.specs.declared.refusal.Refusal.the-variants.{ShortBuffer}
 use Rattle.hogunlas.specs.Calls.{judgeAnswer, judgedOf, judgeBuffer, laidOver}
+use Rattle.hogunlas.specs.declared.Judged.{Judged}
 use Rattle.hogunlas.specs.declared.Judged.the-variants as judged
 
 -- what judge_file says, once its answer is known
@@ -44,25 +48,27 @@ module _ {s starts counts before after : List ℕ} {l : Layout} {n : ℕ} (found
   report-front-length = found .size ∙ ap length (sym report-front)
 
 module _ (s buffer : List ℕ) where
+  -- what judge's contract says of an answer and of the buffer afterwards
+  abbrev pub Answers : Judged → List ℕ → Type 0
+  Answers r exit = (r ≡ judgedOf (judgeAnswer s (length buffer))) × ((exit ≡ judgeBuffer s buffer) × Demand2 s)
+
   -- the file is refused
-  pub judge-refused : (r : Refusal) → accept s ≡ refused r
-      → (judged.Refused r ≡ judgedOf (judgeAnswer s (length buffer))) × (buffer ≡ judgeBuffer s buffer)
+  pub judge-refused : (r : Refusal) → accept s ≡ refused r → Answers (judged.Refused r) buffer
   unfolding judgeAnswer judgeBuffer
-  judge-refused r e = rw e (refl, refl)
+  judge-refused r e = rw e (refl, (refl, demand2 s))
 
   module _ {starts counts before after : List ℕ} {l : Layout} {n : ℕ} (found : AcceptedAs s starts counts before after l n) where
     -- the buffer is too short for the report
-    pub judge-short : length buffer < n
-        → (judged.Refused (ShortBuffer n) ≡ judgedOf (judgeAnswer s (length buffer))) × (buffer ≡ judgeBuffer s buffer)
+    pub judge-short : length buffer < n → Answers (judged.Refused (ShortBuffer n)) buffer
     unfolding judgeAnswer judgeBuffer
     judge-short h =
         rw (found .accepts, lt-leb (length (found .accepted .report)) (length buffer) (rw (found .size) at h))
-        (ap (λ (k : ℕ). judged.Refused (ShortBuffer k)) (found .size), refl)
+        (ap (λ (k : ℕ). judged.Refused (ShortBuffer k)) (found .size), (refl, demand2 s))
 
     -- the report is copied over the buffer
     pub judge-done : n ≤ length buffer → (exit : List ℕ)
         → exit ≡ take (length (take n after)) (take n after) ++ drop (length (take n after)) buffer
-        → (judged.Report n ≡ judgedOf (judgeAnswer s (length buffer))) × (exit ≡ judgeBuffer s buffer)
+        → Answers (judged.Report n) exit
     unfolding judgeAnswer judgeBuffer laidOver
     judge-done h exit e =
         let report = found .accepted .report in
@@ -70,4 +76,4 @@ module _ (s buffer : List ℕ) where
         e ∙ ap (λ (front : List ℕ). take (length front) front ++ drop (length front) buffer) (report-front found)
         ∙ ap (λ (front : List ℕ). front ++ drop (length report) buffer) (take-length report) in
         rw (found .accepts, le-leb (length report) (length buffer) (rw (found .size) at h))
-        (ap judged.Report (found .size), copied)
+        (ap judged.Report (found .size), (copied, demand2 s))

@@ -9,6 +9,7 @@ use program::refusal::detail;
 use program::refusal::number;
 ghost use mathlib.Core.Path.{_≡_};
 ghost use lib.ListN.{length};
+ghost use Rattle.judge.specs.Demand.{Demand2};
 ghost use Rattle.soundness.specs.Demand.{Demand3};
 ghost use Rattle.hogunlas.specs.Calls.{judgeAnswer, judgeBuffer, judgedOf, lineAnswer, lineBuffer, printedOf, ranOf, runAnswer, runBuffer};
 ghost use Rattle.hogunlas.specs.Numbers.{judgedNumbers, printedNumbers, ranNumbers};
@@ -33,6 +34,7 @@ pub struct RanNumbers {
 pub extern "C" fn hogunlas_judge(file: &[u8], report: &mut [u8]) -> JudgedNumbers
     ensures result { λ r. ⌜ r ≡ judgedNumbers (judgedOf (judgeAnswer (now (file .entry)) (length (now (report .entry))))) ⌝ }
     ensures buffer { λ _. ⌜ now (report .exit) ≡ judgeBuffer (now (file .entry)) (now (report .entry)) ⌝ }
+    ensures demand { λ _. ⌜ Demand2 (now (file .entry)) ⌝ }
 {
     let judged = judge(file, report);
     match judged {

@@ -23,6 +23,7 @@ ghost use mathlib.Core.Path.{_≡_};
 ghost use lib.ListN.{length};
 ghost use Rattle.program.specs.Internal.Rows.{rowTable};
 ghost use Rattle.program.specs.Internal.Sections.{SectionTable};
+ghost use Rattle.judge.specs.Demand.{Demand2};
 ghost use Rattle.soundness.specs.Demand.{Demand3};
 ghost use Rattle.hogunlas.specs.Internal.Opened.{OpenedFile};
 ghost use Rattle.hogunlas.specs.Calls.{judgeAnswer, judgeBuffer, judgedOf, lineAnswer, lineBuffer, printedOf, ranOf, runAnswer, runBuffer};
@@ -45,10 +46,12 @@ pub enum Printed {
     Refused(Refusal),
 }
 
-// The atomicity report of a file, laid over the front of the buffer.
+// The atomicity report of a file, laid over the front of the buffer. The contract carries demand 2: the file is accepted exactly when the
+// rules derive it, and the report is what they derive.
 pub fn judge(file: &[u8], out: &mut [u8]) -> Judged
     ensures result { λ r. ⌜ r ≡ judgedOf (judgeAnswer (now (file .entry)) (length (now (out .entry)))) ⌝ }
     ensures buffer { λ _. ⌜ now (out .exit) ≡ judgeBuffer (now (file .entry)) (now (out .entry)) ⌝ }
+    ensures demand { λ _. ⌜ Demand2 (now (file .entry)) ⌝ }
 {
     let rows = row_table();
     let mut starts = [0usize; CODE_LIMIT];

@@ -1,4 +1,5 @@
--- `judge` meets its contract: the file's refusals, a buffer that is too short, or the report copied over the buffer. Assumes nothing.
+-- `judge` meets its contract: the file's refusals, a buffer that is too short, or the report copied over the buffer; demand 2 is a theorem of every file.
+-- Assumes nothing.
 use native.Mathlib.Omega.{arith}
 use Rattle.hogunlas.proofs.JudgeCall.{as-accepted, as-refused, report-within, report-front-length, judge-refused, judge-short, judge-done}
 use borrow.Author.Needs.{needs}

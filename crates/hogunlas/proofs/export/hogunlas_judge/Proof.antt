@@ -1,4 +1,4 @@
--- `hogunlas_judge` meets its contract: `judge`'s answer as numbers, and its buffer. Assumes nothing.
+-- `hogunlas_judge` meets its contract: `judge`'s answer as numbers, its buffer, and demand 2. Assumes nothing.
 use borrow.Author.Needs.{needs}
 use mathlib.Core.Path.{sym, _∙_, ap}
 use Rattle.hogunlas.specs.Numbers.{judgedNumbers}
@@ -32,14 +32,14 @@ detail-requires c κs = search needs
 same-length : tie.Need-same-length
 same-length c = search needs
 
--- `Printed::Line(n) => PrintedNumbers ..`
+-- `Judged::Report(n) => JudgedNumbers ..`
 returns : tie.Need-returns
 returns c = (ap judgedNumbers (sym (c .before .judged .given .1) ∙ c .before .before .before .before .before .judge .ensures .0), c .before .before .before .before .before .judge .ensures .1)
 
 same-length-2 : tie.Need-same-length-2
 same-length-2 c = search needs
 
--- `Printed::Refused(refusal) => PrintedNumbers ..`
+-- `Judged::Refused(refusal) => JudgedNumbers ..`
 returns-2 : tie.Need-returns-2
 returns-2 c = (
   judged-refused (c .before .number .result) (c .detail .result) (c .before .before .before .judged2 .given .0 .0) (c .before .number .ensures .0) (c .detail .ensures)

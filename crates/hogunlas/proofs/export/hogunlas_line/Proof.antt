@@ -32,14 +32,14 @@ detail-requires c κs = search needs
 same-length : tie.Need-same-length
 same-length c = search needs
 
--- `Ran::Counted(moved, waiting, idle) => RanNumbers ..`
+-- `Printed::Line(n) => PrintedNumbers ..`
 returns : tie.Need-returns
 returns c = (ap printedNumbers (sym (c .before .printed .given .1) ∙ c .before .before .before .before .before .line .ensures .0), c .before .before .before .before .before .line .ensures .1)
 
 same-length-2 : tie.Need-same-length-2
 same-length-2 c = search needs
 
--- `Ran::Refused(refusal) => RanNumbers ..`
+-- `Printed::Refused(refusal) => PrintedNumbers ..`
 returns-2 : tie.Need-returns-2
 returns-2 c = (
   printed-refused (c .before .number .result) (c .detail .result) (c .before .before .before .printed2 .given .0 .0) (c .before .number .ensures .0) (c .detail .ensures)

@@ -1,4 +1,4 @@
--- `hogunlas_run` meets its contract: `run`'s answer as numbers, and its buffer. Assumes nothing.
+-- `hogunlas_run` meets its contract: `run`'s answer as numbers, its buffer, and demand 3. Assumes nothing.
 use borrow.Author.Needs.{needs}
 use mathlib.Core.Path.{sym, _∙_, ap}
 use Rattle.hogunlas.specs.Numbers.{ranNumbers}
@@ -32,14 +32,14 @@ detail-requires c κs = search needs
 same-length : tie.Need-same-length
 same-length c = search needs
 
--- `Judged::Report(n) => JudgedNumbers ..`
+-- `Ran::Counted(moved, waiting, idle) => RanNumbers ..`
 returns : tie.Need-returns
 returns c = (ap ranNumbers (sym (c .before .ran .given .1) ∙ c .before .before .before .before .before .run .ensures .0), (c .before .before .before .before .before .run .ensures .1 .0, c .before .before .before .before .before .run .ensures .1 .1))
 
 same-length-2 : tie.Need-same-length-2
 same-length-2 c = search needs
 
--- `Judged::Refused(refusal) => JudgedNumbers ..`
+-- `Ran::Refused(refusal) => RanNumbers ..`
 returns-2 : tie.Need-returns-2
 returns-2 c = (
   ran-refused (c .before .number .result) (c .detail .result) (c .before .before .before .ran2 .given .0 .0) (c .before .number .ensures .0) (c .detail .ensures)
