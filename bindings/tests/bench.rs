@@ -14,6 +14,7 @@ use std::time::Duration;
 
 use hogunlas::{LINE_BUFFER, MAX_FILE};
 use hogunlas_reference::generate::{self, Rng};
+use hogunlas_reference::standard::{examples, Page};
 
 /// How much bench reads at most.
 const INPUT: usize = MAX_FILE + 1;
@@ -105,6 +106,13 @@ fn bench_prints_the_examples() {
 #[test]
 fn bench_prints_the_cases() {
     prints_the_stored(stored::CASES);
+}
+
+#[test]
+fn bench_prints_what_the_standard_shows() {
+    for (file, printed) in examples::printouts(&Page::read()) {
+        assert_prints(&file, printed.as_bytes(), "docs/STANDARD.md");
+    }
 }
 
 #[test]

@@ -45,6 +45,7 @@ pub mod op;
 pub mod printout;
 pub mod reader;
 pub mod refusal;
+pub mod standard;
 mod text;
 
 pub use judge::{judge, report_length};
