@@ -1,4 +1,4 @@
--- The five atomicities (document 01, "Atomicities"; source 003, section 3): composition, order, join, closure, report bytes.
+-- The five atomicities (the standard, "Atomicities"): composition, order, join, closure, report bytes.
 use Prim.Native.Nat.{ℕ}
 use mathlib.Core.Bool.{Bool, true, false}
 use Rattle.atomicity.specs.declared.Atomicity.{Atomicity}

@@ -1,4 +1,4 @@
-// The five atomicities of document 01, "Atomicities" (source 003, section 3): how the steps of a piece of code
+// The five atomicities of the standard, "Atomicities": how the steps of a piece of code
 // commute with the steps of other threads.
 ghost use mathlib.Core.Path.{_≡_};
 ghost use mathlib.Core.List.{[]};

@@ -1,5 +1,5 @@
-// Document 01's cases that have no star, executed through the public calls, then those of its mistakes that look reasonable which a call
-// can show. Each prints a line; the file stdout beside src/ holds what document 01 says. (The starred cases are proved:
+// The standard's cases that have no star, executed through the public calls, then those of its mistakes that look reasonable which a call
+// can show. Each prints a line; the file stdout beside src/ holds what the standard says. (The starred cases are proved:
 // crates/hogunlas/specs/Cases.antt.)
 mod code;
 mod mistakes;

@@ -1,4 +1,4 @@
-// Document 01, "Mistakes that look reasonable": what is right instead. That a thread at its ATOMIC is not inside the block, and a thread at
+// The standard, "Mistakes that look reasonable": what is right instead. That a thread at its ATOMIC is not inside the block, and a thread at
 // the END still is, shows in no answer of a call.
 use crate::code;
 use crate::code::END;

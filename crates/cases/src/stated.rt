@@ -1,4 +1,4 @@
-// Document 01, "Cases": those after "Others".
+// The standard, "Cases": those without a star.
 use crate::code;
 use crate::code::END;
 use crate::code::GIVE;
@@ -17,7 +17,7 @@ pub fn empty_file() {
     show::line(b"empty file, line: ", b"", 0);
 }
 
-// "Empty list: the start state", here of document 01's example file.
+// "Empty list: the start state", here of the standard's example file.
 pub fn empty_list() {
     let file =
         b"\x01\x01\x01\x00\x06\x00\x00\x00\x00\x00\x05\x00\x0C\x20\x00\x00\x00\x10\x02\x00\x00\x21\x00\x00\x00";
@@ -50,7 +50,7 @@ pub fn seventeenth_entry() {
     code::judge(b"17 entries open: ", GUARDED, &code);
 }
 
-// "In the file above, READ put before TAKE: 9 at 13."
+// In the example file "READ put before TAKE: 9 at 13."
 pub fn read_before_take() {
     code::judge(b"READ before TAKE: ", GUARDED, &[READ, TAKE, GIVE]);
 }

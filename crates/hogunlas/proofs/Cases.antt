@@ -1,4 +1,4 @@
--- Document 01's starred cases hold of the definitions. Assumes nothing.
+-- The standard's starred cases hold of the definitions. Assumes nothing.
 --     starred-cases   one computed theorem over the table
 use mathlib.Core.Path.{_≡_, refl}
 use mathlib.Core.List.{map}

@@ -1,4 +1,4 @@
--- Worked examples of document 01 ("Line and bench", "Cases", "Mistakes that look reasonable"), computed by the definitions. Assumes
+-- Worked examples of the standard ("Line and bench", "Cases", "Mistakes that look reasonable"), computed by the definitions. Assumes
 -- nothing.
 --     example-printout               what bench prints for the example file
 --     empty-file, empty-list         an empty file is refused; an empty list leaves the start state
@@ -48,7 +48,7 @@ abbrev nested : ℕ → List ℕ
 nested zero = []
 nested (suc k) = ATOMIC (k + k + 1) ++ nested k ++ END
 
--- "16 entries open pass, the 17th gives 8", at the 17th ATOMIC, whose offset is 13 + 4 * 16
+-- "16 entries open pass, .. the 17th gives 8", at the 17th ATOMIC, whose offset is 13 + 4 * 16
 pub sixteen-open : judgeSays (file guardedVariable (nested 16)) ≡ numbers (replicate 16 1 ++ replicate 16 0 ++ 1 ∷ [])
 unfolding definitions
 sixteen-open = refl
@@ -63,7 +63,7 @@ WHILE n = 0x32 ∷ 0x00 ∷ 0x00 ∷ n ∷ []
 abbrev AGAIN : ℕ → List ℕ
 AGAIN n = 0x33 ∷ 0x00 ∷ 0x00 ∷ n ∷ []
 
--- "A WHILE around TAKE, GIVE: T outside a block, 13 within one"
+-- "A WHILE around TAKE, GIVE: T outside a block, .. 13 within one"
 pub while-outside : judgeSays (file guardedVariable (WHILE 3 ++ TAKE ++ GIVE ++ AGAIN 3)) ≡ numbers (5 ∷ 3 ∷ 2 ∷ 0 ∷ 5 ∷ [])
 unfolding definitions
 while-outside = refl

@@ -6,7 +6,7 @@
 --     Printing      ... of line
 --     Numbers       a refusal as C gets it
 --     Prefix        bench prints the same for the first 33,174 bytes as for the whole file
---     Cases         document 01's starred cases
+--     Cases         the standard's starred cases
 --     Examples      worked examples, computed
 pub mod Definitions
 pub mod Opening

@@ -1,4 +1,4 @@
--- "It reads at most 33,174 bytes; more can't alter the answer" (document 01, "Line and bench"). Assumes nothing.
+-- "It reads at most 33,174 bytes; more can't alter the answer" (the standard, "Line and bench"). Assumes nothing.
 --     rest-unread    bench prints for the first 33,174 bytes what it would print for the whole file
 use Prim.Native.Nat.{ℕ, _≤_}
 use mathlib.Core.Path.{_≡_, refl}

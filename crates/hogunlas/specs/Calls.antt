@@ -1,4 +1,4 @@
--- What each public call answers, and what its buffer then holds (document 01, "Atomicities", "The step machine", "Line and bench";
+-- What each public call answers, and what its buffer then holds (the standard, "Atomicities", "The step machine", "Line and bench";
 -- "Who can bring a number about" for the order of the refusals).
 use Prim.Native.Nat.{ℕ}
 use mathlib.Core.List.{List, [], _++_, flatten}

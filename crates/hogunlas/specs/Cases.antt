@@ -1,4 +1,4 @@
--- The starred cases (document 01, "Cases"), one row each: what the definitions compute, and what document 01 says.
+-- The starred cases (the standard, "Cases"), one row each: what the definitions compute, and what the standard says.
 use Prim.Native.Nat.{ℕ, _+_}
 use mathlib.Core.List.{List, [], _∷_, _++_, map, flatMap}
 use lib.ListN.{length}

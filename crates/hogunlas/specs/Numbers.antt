@@ -1,4 +1,4 @@
--- Each call's answer as the numbers that C gets (include/hogunlas.h): "Each refusal returns its number and one detail D" (document 01,
+-- Each call's answer as the numbers that C gets (include/hogunlas.h): "Each refusal returns its number and one detail D" (the standard,
 -- "Who can bring a number about"); refusal 0 for none.
 use Rattle.program.specs.Refusal.{numberOf, detailOf}
 use Rattle.hogunlas.specs.declared.Judged.{Judged}

@@ -1,4 +1,4 @@
-// The public calls (document 01): judge, run and line. None has a `requires`: bad input is refused, and each contract equates
+// The public calls (the standard, "The calls"): judge, run and line. None has a `requires`: bad input is refused, and each contract equates
 // the result and the lent buffer afterwards with a definition of the whole call, refusals included (specs/Calls.antt).
 pub mod export;
 pub mod list;

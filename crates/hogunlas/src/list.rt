@@ -1,4 +1,4 @@
-// The list of thread numbers that run is handed (document 01, "Who can bring a number about": 15).
+// The list of thread numbers that run is handed (the standard, "Who can bring a number about": 15).
 use program::found::Found;
 ghost use mathlib.Core.Bool.{true};
 ghost use mathlib.Core.Path.{_≡_};

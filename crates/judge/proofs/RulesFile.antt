@@ -1,5 +1,5 @@
--- A file is accepted exactly where it is sound and its program has a derivation, and then the report is the derivation's (document 01,
--- "Worthless versions": "acceptance exactly when the rules hold").
+-- A file is accepted exactly where it is sound and its program has a derivation, and then the report is the derivation's (the standard,
+-- "What is promised": "A sound file is accepted exactly when the rules .. hold of it").
 --     sound-codes-nested                a sound file's code is well nested
 --     accept-judged                     an accepted file is a sound one whose program is judged fine
 --     demand2                           demand 2, of judging

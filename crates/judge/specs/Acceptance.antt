@@ -1,4 +1,4 @@
--- Sound and accepted files (document 01, "Who can bring a number about").
+-- Sound and accepted files (the standard, "Who can bring a number about").
 use Prim.Native.Nat.{ℕ}
 use mathlib.Core.List.{List}
 use Rattle.program.specs.Answer.{Answer, fine, _>>=_}

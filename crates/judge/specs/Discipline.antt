@@ -1,4 +1,4 @@
--- What an instruction that is no opener or closer may do, what it does to the lock set, and its atomicity (document 01, "Lock
+-- What an instruction that is no opener or closer may do, what it does to the lock set, and its atomicity (the standard, "Lock
 -- discipline", "Atomicities"; "Who can bring a number about": 9, 10, 11).
 use Prim.Native.Nat.{ℕ}
 use mathlib.Core.Bool.{Bool, true, false, not}

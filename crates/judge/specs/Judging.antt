@@ -1,4 +1,4 @@
--- The rules of judging over structured code, in reading order (document 01, "Lock discipline", "Atomicities"; source 003, section 3;
+-- The rules of judging over structured code, in reading order (the standard, "Lock discipline", "Atomicities";
 -- "Who can bring a number about": the writer's part), and the report.
 use Prim.Native.Nat.{ℕ, suc, _+_, _*_}
 use mathlib.Core.Bool.{Bool, not}

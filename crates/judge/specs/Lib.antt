@@ -1,4 +1,4 @@
--- Judging (document 01, "Lock discipline", "Atomicities"), in its order; what a reader must believe.
+-- Judging (the standard, "Lock discipline", "Atomicities"), in its order; what a reader must believe.
 --     LockSet     lock sets
 --     Discipline  what an instruction may do, and its atomicity
 --     Judging     the rules over structured code, and the report

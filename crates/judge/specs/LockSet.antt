@@ -1,4 +1,4 @@
--- Lock sets (document 01, "Lock discipline"): a bit for each lock.
+-- Lock sets (the standard, "Lock discipline"): a bit for each lock.
 use Prim.Native.Nat.{ℕ, _+_, _-_, _/_, _%_, _^_}
 use mathlib.Core.Bool.{Bool}
 use lib.Dec.{eqb}

@@ -1,5 +1,5 @@
-// What a variable asks of a code that reads or writes it (document 01, "Lock discipline": "A guarded variable is read or written only
-// with its lock in the set; ..."; "Atomicities"), as a byte, worked out once for each code.
+// What a variable asks of a code that reads or writes it (the standard, "Lock discipline": "A guarded variable is read or written only
+// with its lock in the set; .."; "Atomicities"), as a byte, worked out once for each code.
 use program::layout::Layout;
 use program::limits::RECORDS_START;
 use program::limits::VARIABLE_LIMIT;

@@ -1,4 +1,4 @@
-// What an instruction does in the walk over a code (document 01, "Lock discipline", "Atomicities").
+// What an instruction does in the walk over a code (the standard, "Lock discipline", "Atomicities").
 use crate::frame::Part;
 use crate::lock_set::LockSet;
 use program::instruction::Instruction;

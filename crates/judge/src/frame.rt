@@ -1,4 +1,4 @@
-// The constructs that are open where a code is walked over, and how a part of one ends (document 01, "Lock discipline", "Atomicities").
+// The constructs that are open where a code is walked over, and how a part of one ends (the standard, "Lock discipline", "Atomicities").
 use crate::lock_set::LockSet;
 use atomicity::Atomicity;
 use program::refusal::Refusal;

@@ -1,4 +1,4 @@
-// A whole file judged (document 01, "Who can bring a number about": the sender's part, then the writer's).
+// A whole file judged (the standard, "Who can bring a number about": the sender's part, then the writer's).
 use crate::access_rule::fill_rules;
 use crate::verdict::Verdict;
 use crate::walk::Code;

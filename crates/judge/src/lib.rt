@@ -1,4 +1,4 @@
-// The lock discipline and the atomicities of a station program (document 01, "Lock discipline", "Atomicities").
+// The lock discipline and the atomicities of a station program (the standard, "Lock discipline", "Atomicities").
 pub mod access_rule;
 pub mod effect;
 pub mod frame;

@@ -1,4 +1,4 @@
-// The locks that are held at a place of a code, as its text says (document 01, "Lock discipline"): a bit for each.
+// The locks that are held at a place of a code, as its text says (the standard, "Lock discipline"): a bit for each.
 use program::limits::LOCK_LIMIT;
 ghost use mathlib.Core.Path.{_≡_};
 ghost use mathlib.Core.Bool.{true, false};

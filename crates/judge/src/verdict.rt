@@ -1,4 +1,4 @@
-// What judging a code or a program comes to (document 01, "Who can bring a number about": the writer's part).
+// What judging a code or a program comes to (the standard, "Who can bring a number about": the writer's part).
 use program::refusal::Refusal;
 
 pub enum Verdict {

@@ -1,4 +1,4 @@
-// One code judged in one walk (document 01, "Lock discipline", "Atomicities").
+// One code judged in one walk (the standard, "Lock discipline", "Atomicities").
 use crate::effect::Effect;
 use crate::effect::effect_of;
 use crate::frame::Closed;
@@ -28,7 +28,7 @@ ghost use Rattle.judge.specs.Internal.Scan.{carried, reported, scanCode}
 ghost use Rattle.judge.specs.Internal.Scan as Scan;
 ghost use Rattle.judge.specs.declared.frame.Frame.{Frame};
 
-// The report bytes (document 01: "with report bytes: B 1 .. L 2, R 3, A 4"; "0 for ELSE, AGAIN and END").
+// The report bytes (the standard: "with report bytes: B 1 .. L 2, R 3, A 4"; "0 for ELSE, AGAIN and END").
 const CLOSER: u8 = 0;
 
 const BOTH: u8 = 1;

@@ -1,4 +1,4 @@
--- Where a thread stands inside a block (document 01, "Mistakes that look reasonable": "counting a thread at its ATOMIC as inside;
+-- Where a thread stands inside a block (the standard, "Mistakes that look reasonable": "counting a thread at its ATOMIC as inside;
 -- treating the END of a block as already outside"), computed by the definitions. Assumes nothing.
 --     inside-places   whether it is inside, at each place of a code with a block in a block and a loop
 use Prim.Native.Nat.{ℕ}

@@ -1,5 +1,5 @@
 -- The shape of a state: its lists are as long as the program says, and each thread has eight registers. It is the start's, and a run keeps
--- it, so that the state's bytes are as many as document 01 says ("That makes 4 bytes a variable, 1 a lock and 34 a thread").
+-- it, so that the state's bytes are as many as the standard says ("That makes 4 bytes a variable, 1 a lock and 34 a thread").
 -- Assumes nothing.
 --     Shape             the shape
 --     shape-start       the start has it

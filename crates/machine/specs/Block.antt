@@ -1,4 +1,4 @@
--- Standing inside a block, and uninterrupted lists (document 01, "The step machine").
+-- Standing inside a block, and uninterrupted lists (the standard, "Inside a block").
 use Prim.Native.Nat.{ℕ, suc, _+_, _<_}
 use mathlib.Core.Path.{_≡_}
 use mathlib.Core.Logic.{_≢_}

@@ -1,4 +1,4 @@
--- The step machine (document 01, "The step machine"), in its order; what a reader must believe.
+-- The step machine (the standard, "The step machine"), in its order; what a reader must believe.
 --     State    the state, its start and its bytes
 --     Step     one entry of the list
 --     Run      a list, and its counts

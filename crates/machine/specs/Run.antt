@@ -1,4 +1,4 @@
--- A list of thread numbers, run from the start, and its counts (document 01, "The step machine": "Run returns the counts moved,
+-- A list of thread numbers, run from the start, and its counts (the standard, "The step machine": "Run returns the counts moved,
 -- waiting and idle").
 use Prim.Native.Nat.{ℕ, _+_, _<_}
 use mathlib.Core.List.{List, [], _∷_}

@@ -1,4 +1,4 @@
--- The state (document 01, "The step machine": "the variables, each lock (0 free, or thread number plus 1), and for each thread its
+-- The state (the standard, "The step machine": "the variables, each lock (0 free, or thread number plus 1), and for each thread its
 -- place and eight registers"), its start, and its bytes.
 use Prim.Native.Nat.{ℕ, _/_, _%_}
 use mathlib.Core.List.{List, [], _∷_, _++_, map, flatMap}

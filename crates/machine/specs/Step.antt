@@ -1,4 +1,4 @@
--- One entry of the list: a step of a thread (document 01, "The step machine").
+-- One entry of the list: a step of a thread (the standard, "The step machine").
 use Prim.Native.Nat.{ℕ, _+_, _-_, _%_, _^_}
 use mathlib.Core.Bool.{Bool, false, not}
 use mathlib.Core.List.{List}

@@ -1,4 +1,4 @@
-// The step machine (document 01, "The step machine").
+// The step machine (the standard, "The step machine").
 pub mod moves;
 pub mod prepare;
 pub mod run;

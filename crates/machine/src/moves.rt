@@ -1,4 +1,4 @@
-// What an instruction does where it moves its thread (document 01, "The step machine"): the one `match` on instructions of this crate.
+// What an instruction does where it moves its thread (the standard, "The step machine"): the one `match` on instructions of this crate.
 use program::instruction::Instruction;
 use program::limits::REGISTER_COUNT;
 ghost use mathlib.Core.Path.{_≡_};

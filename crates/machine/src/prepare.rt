@@ -1,4 +1,4 @@
-// The start of a run: the initial values (document 01, "The step machine": "Start: initial values").
+// The start of a run: the initial values (the standard, "The step machine": "Start: initial values").
 use program::layout::Layout;
 use program::limits::RECORDS_START;
 use program::limits::VARIABLE_LIMIT;

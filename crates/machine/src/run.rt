@@ -1,4 +1,4 @@
-// A list of entries, run from the start (document 01, "The step machine").
+// A list of entries, run from the start (the standard, "The step machine").
 use crate::moves::Move;
 use crate::moves::move_of;
 use crate::prepare::initial_values;

@@ -1,4 +1,4 @@
-// A thread's part of the state, and what an entry of the list did (document 01, "The step machine").
+// A thread's part of the state, and what an entry of the list did (the standard, "The step machine").
 use crate::moves::Move;
 use crate::moves::move_of;
 use program::instruction::Instruction;

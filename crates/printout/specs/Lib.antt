@@ -1,4 +1,4 @@
--- The printout (document 01, "Line and bench"), in its order; what a reader must believe.
+-- The printout (the standard, "Line and bench"), in its order; what a reader must believe.
 --     Text     hexadecimal, decimal and fixed texts
 --     Line     every line
 -- Internal holds what only proofs and inner functions use.

@@ -1,4 +1,4 @@
--- Every line of the printout, in order (document 01, "Line and bench").
+-- Every line of the printout, in order (the standard, "Line and bench").
 use Prim.Native.Nat.{ℕ, suc, _+_, _-_}
 use Prim.Native.String.{String}
 use mathlib.Core.List.{List, [], _∷_, _++_, flatMap}
@@ -38,7 +38,7 @@ kindWords (Own g) = ascii "own" ∷ numbered "t" g ∷ []
 kindWords Fixed = ascii "fixed" ∷ []
 kindWords Open = ascii "open" ∷ []
 
--- `00 00 00000005 v0 guarded k0 5`. "A variable: number, kind, initial value"
+-- `00 00 00000005 v0 guarded k0 5`. "A variable: number, kind .. initial value"
 unfoldable pub variableLine : List ℕ → (v : ℕ) → Variable → List ℕ
 variableLine s v x =
     let at = recordOffset v in

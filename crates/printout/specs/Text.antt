@@ -1,4 +1,4 @@
--- Texts as bytes (document 01, "Line and bench": "Raw fields come first, in capital hexadecimal; then names and decimal values").
+-- Texts as bytes (the standard, "Line and bench": "Raw fields come first, in capital hexadecimal; then names and decimal values").
 use Prim.Native.Nat.{ℕ, zero, suc, _+_, _/_, _%_}
 use Prim.Native.Char.{code}
 use Prim.Native.String.{String}

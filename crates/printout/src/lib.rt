@@ -1,4 +1,4 @@
-// The printout (document 01, "Line and bench").
+// The printout (the standard, "Line and bench").
 pub mod line;
 pub mod print;
 pub mod text;

@@ -1,4 +1,4 @@
-// Each kind of line (document 01, "Line and bench"), written from the start of a lent buffer of 48 bytes or more.
+// Each kind of line (the standard, "Line and bench"), written from the start of a lent buffer of 48 bytes or more.
 use crate::text::byte_at;
 use crate::text::copy_at;
 use crate::text::letter_at;

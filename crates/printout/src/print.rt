@@ -1,4 +1,4 @@
-// Line i of the printout of a sound file (document 01, "Line and bench"), found by counting: four lines for the head, one for each
+// Line i of the printout of a sound file (the standard, "Line and bench"), found by counting: four lines for the head, one for each
 // variable, then for each thread one and its code's, then one for each thread's whole. Where a code lies, the table of sections says.
 use crate::line::head_line;
 use crate::line::instruction_line;

@@ -1,4 +1,4 @@
--- Document 01's figures for the limits that specs/Limits.antt computes from others. Assumes nothing.
+-- The standard's figures for the limits that specs/Limits.antt computes from others. Assumes nothing.
 --     variable-section-limit, code-section-limit   the largest sections, in bytes
 --     largest-file-size                            the largest file
 --     report-limit                                 the longest report
@@ -20,7 +20,7 @@ code-section-limit = refl
 pub largest-file-size : largestFile ≡ 33173
 largest-file-size = refl
 
--- "a zeroed report array of 8,200 bytes"
+-- "8,200 bytes"
 pub report-limit : reportLimit ≡ 8200
 report-limit = refl
 

@@ -1,6 +1,6 @@
 -- Laws that belong to no one function.
 --     Definitions  the definitions of reading open
---     Figures      document 01's figures for the limits that follow from others
+--     Figures      the standard's figures for the limits that follow from others
 --     Differ       constructors that differ are not equal
 --     Lists        facts about lists that the kit does not have
 --     Answer       answers: going on, and what a fine one went on from

@@ -1,4 +1,4 @@
--- Nesting passes exactly for the flat writing of well formed code that is at most 16 deep (document 01, "The file": nesting; the scan
+-- Nesting passes exactly for the flat writing of well formed code that is at most 16 deep (the standard, "The file": nesting; the scan
 -- of `Nesting` and the trees of `Code` say the same).
 -- Assumes nothing.
 --     writes-structured   instructions write out one code at most

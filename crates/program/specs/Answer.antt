@@ -1,4 +1,4 @@
--- Answers: what is answered, or the refusal. "First offence deciding" (document 01, "Who can bring a number about"): an offence ends
+-- Answers: what is answered, or the refusal. "First offence deciding" (the standard, "Who can bring a number about"): an offence ends
 -- what is read or judged, and nothing after it counts.
 use Prim.Native.Nat.{ℕ}
 use mathlib.Core.Bool.{Bool}

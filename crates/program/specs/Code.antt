@@ -1,4 +1,4 @@
--- Structured code: what well nested code is the flat writing of (document 01, "The file", "Atomicities": sequence, IF, WHILE, ATOMIC).
+-- Structured code: what well nested code is the flat writing of (the standard, "The file", "Atomicities": sequence, IF, WHILE, ATOMIC).
 use Prim.Native.Nat.{ℕ, zero, suc, _+_, _-_}
 use mathlib.Core.List.{List, [], _∷_}
 use lib.ListN.{length, getD, take, drop}

@@ -1,4 +1,4 @@
--- Fields and sections (document 01, "The file": "Big-endian", "A section is a 2-byte length, then that many bytes").
+-- Fields and sections (the standard, "The file": "Big-endian", "A section is a 2-byte length, then that many bytes").
 use Prim.Native.Nat.{ℕ, _+_, _*_, _/_, _%_}
 use mathlib.Core.Bool.{Bool, _&&_}
 use mathlib.Core.List.{List}
@@ -21,7 +21,7 @@ wordAt s at = pairAt s at * 65536 + pairAt s (at + 2)
 abbrev pub cursor : ℕ → Cursor
 cursor at = record { at = at }
 
--- "1: bytes of a field or section missing; D is the file's length": n bytes from the cursor on are there
+-- "1: bytes of a field or section missing .. D is the file's length": n bytes from the cursor on are there
 unfoldable pub present : List ℕ → Cursor → ℕ → Bool
 present s c n = leb (c .at + n) (length s)
 

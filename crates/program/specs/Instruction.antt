@@ -1,4 +1,4 @@
--- The table of op codes (document 01, "The file": "An instruction has 4 bytes: op, a, b, c").
+-- The table of op codes (the standard, "The file": "An instruction has 4 bytes: op, a, b, c").
 use Prim.Native.Nat.{ℕ, _+_, _*_}
 use mathlib.Core.Bool.{Bool, true, false, _&&_}
 use mathlib.Core.List.{List, [], _∷_}

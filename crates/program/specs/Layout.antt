@@ -1,4 +1,4 @@
--- The whole file, front to back (document 01, "The file"; "Who can bring a number about": the sender's part), and what a sound file
+-- The whole file, front to back (the standard, "The file"; "Who can bring a number about": the sender's part), and what a sound file
 -- holds.
 use Prim.Native.Nat.{ℕ, zero, suc, _+_, _*_, _/_}
 use mathlib.Core.Bool.{_&&_}

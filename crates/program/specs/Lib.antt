@@ -1,4 +1,4 @@
--- The file (document 01, "The file"), in its order; what a reader must believe.
+-- The file (the standard, "The file"), in its order; what a reader must believe.
 --     Limits       limits and sizes by name
 --     Refusal      numbers and details
 --     Choice       how definitions decide

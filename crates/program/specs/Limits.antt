@@ -1,4 +1,4 @@
--- Limits and sizes (document 01), in its order, each with the sentence that sets it: no other definition or contract writes these
+-- Limits and sizes (the standard), in its order, each with the sentence that sets it: no other definition or contract writes these
 -- numbers. They are abbreviations, so a proof sees the number. src/limits.rt has the same names for code.
 use Prim.Native.Nat.{ℕ, _+_, _*_}
 

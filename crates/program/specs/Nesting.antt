@@ -1,4 +1,4 @@
--- Nesting (document 01, "The file": from "A place is an instruction's index in its thread" on), as a scan with the open entries,
+-- Nesting (the standard, "The file": from "A place is an instruction's index in its thread" on), as a scan with the open entries,
 -- innermost first.
 use Prim.Native.Nat.{ℕ, suc, _+_}
 use mathlib.Core.Bool.{Bool, true, _&&_, not}

@@ -1,4 +1,4 @@
--- Each refusal's number and detail D (document 01, "Who can bring a number about").
+-- Each refusal's number and detail D (the standard, "Who can bring a number about").
 use Prim.Native.Nat.{ℕ}
 use Rattle.program.specs.declared.refusal.Refusal.{Refusal}
 use Rattle.program.specs.declared.refusal.Refusal.the-variants.{Missing, Version, Count, Length, LeftOver, Record, Instruction, Nesting, Access, Taken, NotTaken, SetsDiffer, NotAtomic, LongList, ThreadNumber, ShortBuffer, LineNumber}

@@ -1,4 +1,4 @@
--- Variable records (document 01, "The file": "A variable record has 6 bytes: kind, g, initial value").
+-- Variable records (the standard, "The file": "A variable record has 6 bytes: kind, g, initial value").
 use Prim.Native.Nat.{ℕ, _+_}
 use mathlib.Core.Bool.{Bool, true, false}
 use mathlib.Core.List.{List}

@@ -1,4 +1,4 @@
--- What the rules see of an instruction (document 01, "The file"): an access to what the threads share, an opener or a closer, or neither.
+-- What the rules see of an instruction (the standard, "The file"): an access to what the threads share, an opener or a closer, or neither.
 -- Nesting, structure and blocks go by its form; the lock discipline, the atomicities and the step machine, where they speak of variables
 -- and locks, by its access.
 use Prim.Native.Nat.{ℕ}

@@ -1,4 +1,4 @@
-// Reading a field of the file (document 01, "The file").
+// Reading a field of the file (the standard, "The file").
 use crate::refusal::Refusal;
 ghost use mathlib.Core.Path.{_≡_};
 ghost use Prim.Native.Nat.{_+_, _*_, _≤_, _<_};

@@ -1,4 +1,4 @@
-// A decoded instruction (document 01, "The file": the table of op codes).
+// A decoded instruction (the standard, "The file": the table of op codes).
 ghost use mathlib.Core.Path.{_≡_};
 ghost use mathlib.Core.Bool.{true};
 ghost use Prim.Native.Nat.{ℕ, _+_, _/_, _%_, _^_, _≤_, _<_};
@@ -28,7 +28,7 @@ pub enum Instruction {
     End,
 }
 
-// The row of each op code in document 01's table, from 1 on, by the op code; 0 for a byte that is none. Numbers without gaps make a
+// The row of each op code in the standard's table, from 1 on, by the op code; 0 for a byte that is none. Numbers without gaps make a
 // `match` on them short enough for the compiler to put it where it is used.
 const ROWS: [u8; 256] = [
     0,

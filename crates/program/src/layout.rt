@@ -1,4 +1,4 @@
-// Reading the whole file, front to back (document 01, "The file"; "Who can bring a number about": the sender's part). The first
+// Reading the whole file, front to back (the standard, "The file"; "Who can bring a number about": the sender's part). The first
 // offence decides.
 use crate::cursor::Cursor;
 use crate::cursor::Field;

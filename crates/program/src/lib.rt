@@ -1,4 +1,4 @@
-// The station program as a file: its fields, variable records, instructions and nesting (document 01, "The file").
+// The station program as a file: its fields, variable records, instructions and nesting (the standard, "The file").
 pub mod cursor;
 pub mod found;
 pub mod instruction;

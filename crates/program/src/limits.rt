@@ -1,4 +1,4 @@
-// Limits and sizes (document 01), under the names of specs/Limits.antt, where each stands with its sentence.
+// Limits and sizes (the standard), under the names of specs/Limits.antt, where each stands with its sentence.
 
 // The file.
 pub const LOCK_LIMIT: usize = 16;

@@ -1,4 +1,4 @@
-// Nesting (document 01, "The file": from "A place is an instruction's index in its thread" on): a scan with a stack of open entries.
+// Nesting (the standard, "The file": from "A place is an instruction's index in its thread" on): a scan with a stack of open entries.
 use crate::limits::ENTRY_LIMIT;
 ghost use mathlib.Core.Path.{_≡_};
 ghost use mathlib.Core.List.{List};

@@ -1,4 +1,4 @@
-// Why a call is refused (document 01, "Who can bring a number about"). Each refusal holds its detail D.
+// Why a call is refused (the standard, "Who can bring a number about"). Each refusal holds its detail D.
 ghost use mathlib.Core.Path.{_≡_};
 ghost use Prim.Native.Nat.{_<_};
 ghost use Rattle.program.specs.Refusal.{detailOf, numberOf};

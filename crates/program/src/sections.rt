@@ -1,4 +1,4 @@
-// The table of sections: where in the file each code lies, found once after reading (document 01, "The file": "one code section for
+// The table of sections: where in the file each code lies, found once after reading (the standard, "The file": "one code section for
 // each thread").
 use crate::layout::Layout;
 use crate::layout::code_count;

@@ -1,4 +1,4 @@
-// A variable record's kind (document 01, "The file": "Kinds").
+// A variable record's kind (the standard, "The file": "Kinds").
 use crate::cursor::pair_at;
 use crate::found::Found;
 use crate::limits::VARIABLE_SIZE;

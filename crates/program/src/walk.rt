@@ -1,4 +1,4 @@
-// One pass over a thread's code section: the fields of its instructions and its nesting together (document 01, "Who can bring a number
+// One pass over a thread's code section: the fields of its instructions and its nesting together (the standard, "Who can bring a number
 // about": 7; 8 "after all 7s of that thread").
 use crate::instruction::is_nesting;
 use crate::instruction::is_valid;

@@ -38,7 +38,7 @@ use Rattle.machine.proofs.Kept.{length-locks-after}
 use Rattle.soundness.proofs.Access.{legal-permitted, legal-set}
 use Rattle.soundness.proofs.Owns.{owns-moved, owns-other}
 
--- ---- what "moved" says
+-- ---- what `Moved` says
 
 moved-not-idle : (a b : Bool) → choose a Idle (choose b Waiting Moved) ≡ Moved → a ≡ false
 moved-not-idle true b e = differ cc

@@ -1,6 +1,6 @@
--- Demand 3 (document 01, "The step machine"): "one claim about a whole list, not one for each entry: it compares the whole end states
--- of the given and the uninterrupted list, and their moved counts". The uninterrupted list is also what document 02 asks of it: each
--- thread makes its moves of the given list in their order (No. 2, No. 9), and the blocks keep their turn (No. 9).
+-- Demand 3 (the standard, "The step machine"): "one claim about a whole list, not one for each entry: it compares the whole end states
+-- of the given and the uninterrupted list, and their moved counts". Also promised of the uninterrupted list ("What is promised"): each
+-- thread makes its moves of the given list in their order, and the blocks keep their turn.
 use Prim.Native.Nat.{ℕ}
 use mathlib.Core.Path.{_≡_}
 use mathlib.Core.List.{List}
@@ -23,9 +23,9 @@ pub record Serialized (p : Program) (list : List ℕ) : Type 0 where
   -- that ends in the same variables, locks and thread states with the same number of moves
   pub same-state : run p serial .state ≡ run p list .state
   pub same-moved : run p serial .counts .moved ≡ run p list .counts .moved
-  -- "in which each thread makes its moves of the given list in their order" (No. 9), from the same places with the same registers
+  -- "in which each thread makes its moves of the given list in their order", "from the same place with the same registers"
   pub same-moves : (t : ℕ) → movesOf t (moves p serial) ≡ movesOf t (moves p list)
-  -- "an outermost block whose last move comes before another's first in the given list does so in the new one" (No. 9)
+  -- "an outermost block whose last move comes before another's first in the given list does so in the new one"
   pub same-order : (a b : BlockName) → Precedes a b (moves p list) → Precedes a b (moves p serial)
 
 -- for every accepted file and every list of its thread numbers run from the start: if after the whole list no thread stands inside a

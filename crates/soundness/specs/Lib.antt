@@ -1,4 +1,4 @@
--- What a reader must believe of demand 3 (document 01, "The step machine"; document 02, No. 2 and No. 9):
+-- What a reader must believe of demand 3 (the standard, "The step machine", "What is promised"):
 --     Demand       demand 3
 --     Naming       the moves of a list, their blocks and the blocks' order, by `AllPairs` of reduction's specs/Sequence.antt
 -- Internal holds what only the proof speaks of.

@@ -1,5 +1,5 @@
--- The moves that a list makes (document 01, "The step machine"): who moves, from which place with which registers, and in which block;
--- each thread's moves, and which block is over when another begins (document 02, No. 2 and No. 9). A block is named by its thread and
+-- The moves that a list makes (the standard, "The step machine"): who moves, from which place with which registers, and in which block;
+-- each thread's moves, and which block is over when another begins ("What is promised"). A block is named by its thread and
 -- how many blocks that thread had finished before. "The move of the ATOMIC itself is its block's first. Any other move outside every
 -- block counts as a block of one".
 use Prim.Native.Nat.{ℕ, suc}

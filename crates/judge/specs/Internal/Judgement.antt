@@ -1,5 +1,5 @@
--- What judging a file answers, and what it leaves in the report's buffer (document 01, "Who can bring a number about"; "Judge returns
--- its length; later bytes are kept"). The buffer is large enough for every report; on a refusal nothing is said of its bytes, and the
+-- What judging a file answers, and what it leaves in the report's buffer (the standard, "Who can bring a number about", "The report":
+-- "Judge returns its length; later bytes are kept"). The buffer is large enough for every report; on a refusal nothing is said of its bytes, and the
 -- public calls hand none of them on.
 --     AcceptedAs   the file is accepted: its sections, its counts, its report's length and the buffer afterwards
 --     Judgement    what an answer of judge_file says

@@ -86,7 +86,7 @@ endOf Block d f s a = blockEnd d a
 -- The walk
 
 -- what is carried on where the part of frame f ends, with the other frames fs: "Both parts of an IF start with the set at the IF"; "the
--- whole construct's [byte] at its opener"
+-- whole construct's at its opener"
 unfoldable pub closed : Closed → Frame → LockSet → Atomicity → List Frame → List ℕ → Answer Carried
 closed Other f s a fs report = fine (carried (f .locks) atomicity.Both (otherPart f s a ∷ fs) report)
 closed (Whole b) f s a fs report = fine (carried s (composition (f .before) b) fs (set report (f .opener) (reportByte b)))

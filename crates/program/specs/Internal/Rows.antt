@@ -1,4 +1,4 @@
--- The rows of document 01's table by number, as the tables of src/instruction.rt have them: from 1 on, 0 for a byte that is no op code.
+-- The rows of the standard's table by number, as the tables of src/instruction.rt have them: from 1 on, 0 for a byte that is no op code.
 --     position, rowOf             the row of an op code
 --     rowTable                    ... for each byte
 --     limitOf                     the number that a right field lies below

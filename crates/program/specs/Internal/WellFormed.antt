@@ -1,4 +1,4 @@
--- Structured code that a file can hold (document 01, "The file": nesting), for the theorem that ties the scan of `Nesting` to the
+-- Structured code that a file can hold (the standard, "The file": nesting), for the theorem that ties the scan of `Nesting` to the
 -- trees of `Code`. The first part is what the theorem states; the others are what proofs carry along.
 --     flat, WellFormed, depth, Writes           structured code, and the instructions that write it out
 --     Passes, Closes, ComesTo                   a scan that passes, and what it has come to

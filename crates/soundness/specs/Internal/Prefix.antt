@@ -17,7 +17,7 @@ pub data Prefix : Type 0 where
   outer : Prefix
   inner : (before : Atomicity) → Prefix
 
--- what the place counts as: "before the commit" is where all that comes before is a right mover
+-- what the place counts as: `beforeCommit` is where all that comes before is a right mover
 unfoldable pub statusOf : Prefix → Status
 statusOf outer = outside
 statusOf (inner x) = choose (atMost x Right) beforeCommit afterCommit
