@@ -169,7 +169,7 @@ fn bench_refuses_what_is_too_long() {
 /// A pipe may hand over less than is asked for.
 #[test]
 fn bench_waits_for_the_rest_of_its_input() {
-    let example = stored::one(stored::EXAMPLES, "document");
+    let example = stored::one(stored::EXAMPLES, "standard");
     let bytes: Vec<&[u8]> = example.file.chunks(1).collect();
     let printed = printed_piecewise(&bytes, Duration::from_millis(2));
     assert_eq!(printed, example.printout);

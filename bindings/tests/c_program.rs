@@ -1,5 +1,5 @@
 //! The header and the archive from C: `c/example.c` compiles without a warning, links, and prints
-//! what document 01 says of its example file.
+//! what the standard says of its example file.
 
 use std::path::{Path, PathBuf};
 use std::process::{Command, Output};

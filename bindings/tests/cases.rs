@@ -1,4 +1,4 @@
-//! Document 01's cases, answered by the compiled library. Each answer is stated here, and the
+//! The standard's cases, answered by the compiled library. Each answer is stated here, and the
 //! reimplementation has to leave the same bytes in and around every buffer that is lent.
 
 mod stored;
@@ -151,8 +151,8 @@ mod run {
 
     #[test]
     fn the_empty_list_gives_the_start_state() {
-        let example = stored::one(stored::EXAMPLES, "document");
-        let (counted, state) = run("document", &example.file, &[]).expect("an answer");
+        let example = stored::one(stored::EXAMPLES, "standard");
+        let (counted, state) = run("standard", &example.file, &[]).expect("an answer");
         assert_eq!(counted, counts(0, 0, 0));
         assert_eq!(state[..5], [0, 0, 0, 5, 0]);
         assert_eq!(state[5..], [0; 34]);

@@ -75,7 +75,7 @@ mod tests {
     }
 
     #[test]
-    fn order_is_the_documents() {
+    fn order_is_the_standards() {
         for (x, y) in [(B, L), (B, R), (L, A), (R, A), (A, T)] {
             assert!(below(x, y) && !below(y, x), "{x:?} below {y:?}");
         }

@@ -1,10 +1,10 @@
-//! A plain Rust reimplementation of document 01: the station program, its judge and its
-//! step machine.
+//! A plain Rust reimplementation of the standard, docs/STANDARD.md: the station program, its judge
+//! and its step machine.
 //!
-//! It is written from the document alone and shares nothing with the verified library, so that
-//! the two can be compared on the same input, for their answers and for their speed.
+//! It is written from the standard's rules alone and shares nothing with the verified library, so
+//! that the two can be compared on the same input, for their answers and for their speed.
 //!
-//! | module | document 01 | refusals |
+//! | module | the standard | refusals |
 //! |---|---|---|
 //! | [`refusal`] | "Who can bring a number about" | the numbers' names |
 //! | [`op`] | "The file": the table of op codes | – |
@@ -21,6 +21,7 @@
 //! | [`printout`] | "Line and bench": which line is about what | 17, 16 |
 //! | `text` | "Line and bench": a line's text | – |
 //! | [`generate`] | – (files and lists for tests) | – |
+//! | [`standard`] | – (the page itself, for tests) | – |
 //!
 //! It is also the yardstick for the library's speed, so it is written to be fast as far as it
 //! stays plain and safe: judge reads and judges each thread's code in the same pass, nothing is

@@ -1,4 +1,4 @@
-//! Document 01's cases, starred and not; its mistakes that look reasonable; its example file; and
+//! The standard's cases, starred and not; its mistakes that look reasonable; its example file; and
 //! what it means to stand inside a block.
 
 mod common;

@@ -43,7 +43,7 @@ const ANY: usize = 256;
 const REGISTER: usize = 8;
 const UNUSED: usize = 1;
 
-/// Document 01's table of op codes: the values below these are good in the fields a, b, c.
+/// The standard's table of op codes: the values below these are good in the fields a, b, c.
 fn good_values(locks: usize, variables: usize) -> [(u8, [usize; 3]); 15] {
     [
         (0x01, [REGISTER, ANY, ANY]),

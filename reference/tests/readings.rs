@@ -1,4 +1,4 @@
-//! The order of refusals, as document 01's silent spots are read.
+//! The order of refusals ("The order of tests").
 
 mod common;
 

@@ -4,7 +4,7 @@
 //! The uninterrupted list is searched for, with nothing used of how the judge works: each thread
 //! keeps its own moves, cut into units (an outermost block, or one move outside blocks), and the
 //! units are put into some order that ends in the same state. What is found is then checked
-//! against document 01's wording.
+//! against the standard's wording.
 
 mod common;
 

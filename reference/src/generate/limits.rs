@@ -1,4 +1,4 @@
-//! Files at the limits of document 01.
+//! Files at the limits of the standard.
 
 use super::program::{Source, Style};
 use super::rng::Rng;
