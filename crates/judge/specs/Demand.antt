@@ -1,5 +1,5 @@
--- Demand 2, of judging (document 01, "Who can bring a number about"): a file is accepted exactly when it is sound and the rules derive its
--- program, and its report is what they derive. (That running equals the step machine is what run's contract says.)
+-- Demand 2, of judging (the standard, "What is promised": "A sound file is accepted exactly when the rules .. hold of it, and then the
+-- report is what they give"). That running is the step machine is what run's contract says.
 use Prim.Native.Nat.{ℕ}
 use mathlib.Core.Path.{_≡_}
 use mathlib.Core.Logic.{_↔_}
