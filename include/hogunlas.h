@@ -1,5 +1,6 @@
 /*
- * Hogunlas: judge a station program, run it step by step, print it line by line.
+ * Hogunlas: judge a station program, run it step by step, print it line by line. What the calls
+ * answer is fixed by the standard, docs/STANDARD.md.
  *
  * The calls are those of libhogunlas.a, which `rt staticlib hogunlas` makes of proved code. They
  * keep nothing between calls, ask for no memory, and may be made from several threads at once.
@@ -27,6 +28,10 @@
 #ifdef __cplusplus
 extern "C" {
 #endif
+
+/* The version of the standard. (HOGUNLAS_VERSION is a refusal: the version of a file.) */
+#define HOGUNLAS_STANDARD_MAJOR 1
+#define HOGUNLAS_STANDARD_MINOR 0
 
 /* The limits. */
 #define HOGUNLAS_MAX_FILE 33173  /* bytes of the largest file that is not refused */

@@ -1,5 +1,5 @@
 /*
- * The calls from C, on document 01's example file. Prints what they answer and ends with 0, or
+ * The calls from C, on the standard's example file. Prints what they answer and ends with 0, or
  * says what is wrong and ends with 1.
  *
  *     cc -I../include c/example.c ../target/staticlib/libhogunlas.a

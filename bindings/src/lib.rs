@@ -1,5 +1,5 @@
 //! Safe Rust calls of the verified library Hogunlas: judge a station program, run it step by
-//! step, print it line by line (document 01).
+//! step, print it line by line. What the calls answer is fixed by the standard, `docs/STANDARD.md`.
 //!
 //! Every call takes the file as bytes and lays its answer over the front of a buffer that the
 //! caller lends; the bytes past the answer are kept, and after a refusal all bytes are. Any bytes
@@ -13,6 +13,12 @@ mod ffi;
 
 use std::error::Error;
 use std::fmt;
+
+/// The version of the standard that the calls follow: the number before the point.
+pub const STANDARD_MAJOR: u32 = 1;
+
+/// The version of the standard that the calls follow: the number after the point.
+pub const STANDARD_MINOR: u32 = 0;
 
 /// The length of the largest file that is not refused.
 pub const MAX_FILE: usize = 33_173;
@@ -29,8 +35,8 @@ pub const MAX_STATE: usize = 544;
 /// The buffer that `line` needs, whatever the line's own length.
 pub const LINE_BUFFER: usize = 48;
 
-/// Why a call gave no answer ("Who can bring a number about"). What the detail means depends on
-/// the number: for most, it is the offset in the file at which the offence lies.
+/// Why a call gave no answer (the standard, "Who can bring a number about"). What the detail means
+/// depends on the number: for most, it is the offset in the file at which the offence lies.
 #[derive(Clone, Copy, Debug, PartialEq, Eq, Hash)]
 pub struct Refusal {
     /// 1 to 8: the sender of the file; 9 to 13: the program's writer; 14 to 17: the caller.

@@ -1,4 +1,7 @@
-//! That the crate and the header say of the archive what it is.
+//! That the crate and the header say of the archive what it is, and of the standard which it is.
+
+use std::fs;
+use std::path::Path;
 
 use hogunlas_reference::{judge, machine, printout, reader, Refusal};
 
@@ -51,6 +54,31 @@ fn the_limits_are_the_headers() {
         let definition = format!("#define HOGUNLAS_{name} {limit} ");
         assert!(header.contains(&definition), "{definition}");
     }
+}
+
+/// The version that the standard gives itself, by its line `Version 1.0.`.
+fn standard_version() -> String {
+    let page = Path::new(env!("CARGO_MANIFEST_DIR")).join("../docs/STANDARD.md");
+    let text = fs::read_to_string(page).expect("docs/STANDARD.md");
+    let mut lines = text.lines();
+    let version = lines.find_map(|line| line.strip_prefix("Version "));
+    let version = version.and_then(|rest| rest.split_whitespace().next());
+    let version = version.expect("a line that starts with `Version `");
+    version.trim_end_matches('.').to_string()
+}
+
+/// The crate, the header and the standard name one version.
+#[test]
+fn the_version_is_the_standards() {
+    let (major, minor) = (hogunlas::STANDARD_MAJOR, hogunlas::STANDARD_MINOR);
+    let header = include_str!("../../include/hogunlas.h");
+    for definition in [
+        format!("#define HOGUNLAS_STANDARD_MAJOR {major}\n"),
+        format!("#define HOGUNLAS_STANDARD_MINOR {minor}\n"),
+    ] {
+        assert!(header.contains(&definition), "{definition}");
+    }
+    assert_eq!(standard_version(), format!("{major}.{minor}"));
 }
 
 /// Each refusal stands in the header under the reimplementation's name and number.

@@ -1,14 +1,19 @@
 //! The verified program `bench`: on the stored files it prints what stands beside them, on
-//! generated ones what the library's calls answer.
+//! generated ones what the library's calls answer; and what it does with an input or an output
+//! that fails.
 
 mod stored;
 mod vector_file;
 
 use std::collections::BTreeMap;
 use std::env;
+use std::fs::{self, File};
 use std::io::Write;
+use std::os::fd::OwnedFd;
+use std::os::unix::net::UnixStream;
+use std::os::unix::process::ExitStatusExt;
 use std::path::{Path, PathBuf};
-use std::process::{Command, Stdio};
+use std::process::{Command, Output, Stdio};
 use std::thread;
 use std::time::Duration;
 
@@ -177,4 +182,105 @@ fn bench_waits_for_the_rest_of_its_input() {
     let pieces: Vec<&[u8]> = largest.chunks(5_000).collect();
     let printed = printed_piecewise(&pieces, Duration::from_millis(2));
     assert!(printed == hogunlas_reference::bench(&largest));
+}
+
+// ---- standard input and output that fail, as README's "What bench does with its input and output" says
+
+/// bench as a shell starts it, after a command and with redirections.
+fn shell(first: &str, redirections: &str) -> Command {
+    let mut command = Command::new("sh");
+    command.args(["-c", &format!("{first} exec \"$0\" {redirections}")]);
+    command.arg(program());
+    command
+}
+
+/// How bench ends on a file; where its standard output is a pipe, nobody reads it.
+fn ended(mut bench: Command, file: &[u8]) -> Output {
+    bench.stdin(Stdio::piped()).stderr(Stdio::piped());
+    let mut running = bench.spawn().expect("bench starts");
+    drop(running.stdout.take());
+    let mut stdin = running.stdin.take().expect("a pipe");
+    stdin.write_all(file).expect("bench reads the file");
+    drop(stdin);
+    running.wait_with_output().expect("bench ends")
+}
+
+/// Whether it ended by itself, with 0 and without a word about what went wrong.
+fn assert_silent(output: &Output, case: &str) {
+    assert_eq!(output.status.code(), Some(0), "{case}: {}", output.status);
+    assert!(output.stderr.is_empty(), "{case}");
+}
+
+/// Closed, at its end, a folder, open for writing only.
+#[test]
+fn an_input_that_cannot_be_read_is_empty() {
+    for input in ["<&-", "</dev/null", "</", "0>/dev/null"] {
+        let output = shell("", input).output().expect("bench ends");
+        assert_silent(&output, input);
+        assert_eq!(output.stdout, b"refused 1 at 0\n", "{input}");
+    }
+}
+
+/// A read fails where nothing is there yet and waiting is not asked for. What came before is the
+/// file, cut short or not.
+#[test]
+fn a_read_that_fails_ends_the_input() {
+    let example = stored::one(stored::EXAMPLES, "document");
+    for (length, wanted) in [(20, &b"refused 1 at 20\n"[..]), (25, &example.printout)] {
+        let (mut ours, theirs) = UnixStream::pair().expect("two sockets");
+        theirs.set_nonblocking(true).expect("a setting");
+        ours.write_all(&example.file[..length]).expect("room");
+        let mut bench = Command::new(program());
+        let output = bench.stdin(OwnedFd::from(theirs)).output();
+        let output = output.expect("bench ends");
+        assert_silent(&output, "a read that fails");
+        assert_eq!(output.stdout, wanted);
+    }
+}
+
+/// Closed, full, open for reading only: the printout is lost, and only its absence says so.
+#[test]
+fn an_output_that_cannot_be_written_is_lost() {
+    let example = stored::one(stored::EXAMPLES, "ascent");
+    for output in [">&-", ">/dev/full", "1</dev/null"] {
+        let ended = ended(shell("", output), &example.file);
+        assert_silent(&ended, output);
+    }
+}
+
+/// A limit of 8 blocks of 512 bytes stands for a disk that is full after them.
+#[test]
+fn an_output_that_fills_up_is_cut() {
+    let path = Path::new(env!("CARGO_TARGET_TMPDIR")).join("cut.txt");
+    let file = generate::largest_file(&mut Rng::new(4));
+    let mut bench = shell("trap '' XFSZ; ulimit -f 8;", "");
+    bench.stdout(File::create(&path).expect("a file"));
+    let ended = ended(bench, &file);
+    assert_silent(&ended, "a full disk");
+    let printout = hogunlas_reference::bench(&file);
+    assert!(fs::read(&path).expect("the file") == printout[..8 * 512]);
+}
+
+/// The signals by which the system says it where they are not ignored.
+#[test]
+fn an_output_that_nobody_reads_ends_bench_by_its_signal() {
+    let example = stored::one(stored::EXAMPLES, "ascent");
+    let unread = |first: &str| {
+        let mut bench = shell(first, "");
+        bench.stdout(Stdio::piped());
+        ended(bench, &example.file)
+    };
+    assert_eq!(unread("").status.signal(), Some(13), "SIGPIPE");
+    assert_silent(&unread("trap '' PIPE;"), "SIGPIPE ignored");
+}
+
+/// How a reader tells that a printout is whole: its last line is that of the last thread's whole
+/// code, or it is a refusal; nothing shorter ends so.
+#[test]
+fn a_cut_printout_can_be_told() {
+    let text = String::from_utf8(printed(&stored::one(stored::EXAMPLES, "ascent").file));
+    let text = text.expect("a text");
+    let whole = |text: &str| text.ends_with("\nthread 1 T\n");
+    assert!(text.contains("\n02 threads 2\n") && whole(&text));
+    assert!((0..text.len()).all(|length| !whole(&text[..length])));
 }
