@@ -248,30 +248,34 @@ fn an_output_that_cannot_be_written_is_lost() {
     }
 }
 
-/// A limit of 8 blocks of 512 bytes stands for a disk that is full after them.
+/// A limit of 8 blocks of 512 bytes stands for a disk that is full after them: what fits is
+/// written. Where the limit's signal is not ignored, it ends bench then.
 #[test]
 fn an_output_that_fills_up_is_cut() {
     let path = Path::new(env!("CARGO_TARGET_TMPDIR")).join("cut.txt");
     let file = generate::largest_file(&mut Rng::new(4));
-    let mut bench = shell("trap '' XFSZ; ulimit -f 8;", "");
-    bench.stdout(File::create(&path).expect("a file"));
-    let ended = ended(bench, &file);
-    assert_silent(&ended, "a full disk");
     let printout = hogunlas_reference::bench(&file);
-    assert!(fs::read(&path).expect("the file") == printout[..8 * 512]);
+    let filled = |first: &str| {
+        let mut bench = shell(&format!("{first} ulimit -f 8;"), "");
+        bench.stdout(File::create(&path).expect("a file"));
+        let ended = ended(bench, &file);
+        assert!(fs::read(&path).expect("the file") == printout[..8 * 512]);
+        ended
+    };
+    assert_silent(&filled("trap '' XFSZ;"), "SIGXFSZ ignored");
+    assert_eq!(filled("").status.signal(), Some(25), "SIGXFSZ");
 }
 
-/// The signals by which the system says it where they are not ignored.
 #[test]
-fn an_output_that_nobody_reads_ends_bench_by_its_signal() {
+fn an_output_that_nobody_reads_is_lost() {
     let example = stored::one(stored::EXAMPLES, "ascent");
     let unread = |first: &str| {
         let mut bench = shell(first, "");
         bench.stdout(Stdio::piped());
         ended(bench, &example.file)
     };
-    assert_eq!(unread("").status.signal(), Some(13), "SIGPIPE");
     assert_silent(&unread("trap '' PIPE;"), "SIGPIPE ignored");
+    assert_eq!(unread("").status.signal(), Some(13), "SIGPIPE");
 }
 
 /// How a reader tells that a printout is whole: its last line is that of the last thread's whole
