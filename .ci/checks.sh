@@ -137,17 +137,24 @@ tests_of() { # FOLDER
     ) 2>/dev/null
 }
 
+# The tests that are written in a folder. A file that no other names, or a test that a condition leaves out, has them and runs none.
+tests_written() { # FOLDER
+    grep -rhE '^ *#\[test\]' "$1/src" "$1/tests" 2>/dev/null | wc -l
+}
+
 # How many tests of the programs whose names begin so ran.
 tests_run() { # LOG BEGINNING
     test_programs "$1" | awk -v name="$2" 'index($1, name) == 1 { n += $3 + $4 } END { print n + 0 }'
 }
 
-# Every test program of the folder ran, printed its result and left nothing out.
+# Every test of the folder ran, and every test program printed its result and left nothing out.
 rust_faults() { # FOLDER LOG STATUS
-    local name results passed failed ignored measured filtered
+    local run name results passed failed ignored measured filtered
     tests_of "$1" | grep -q '^tests/' || echo "$1/tests has no test program"
     [ "$(rust_passed "$2")" -gt 0 ] || echo "$1/: 0 passed"
     [ "$3" -eq 0 ] || [ "$(rust_failed "$2")" -gt 0 ] || echo "cargo test in $1/ ended with status $3"
+    run=$(($(tests_run "$2" tests/) + $(tests_run "$2" unittests:)))
+    [ "$run" -ge "$(tests_written "$1")" ] || echo "$1/: $run tests ran, and $(tests_written "$1") are written"
     while read -r name; do
         [ "$(tests_run "$2" "$name")" -gt 0 ] || echo "$1/: no test of $name ran"
     done < <(tests_of "$1")
