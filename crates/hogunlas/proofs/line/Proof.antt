@@ -1,5 +1,6 @@
 -- `line` meets its contract: the file's refusals, no such line, a buffer that is too short, or the line laid over the buffer. Assumes nothing.
 use native.Mathlib.Omega.{arith}
+use Prim.Native.Nat.{_≤_}
 use Rattle.hogunlas.proofs.JudgeCall.{as-accepted, as-refused, report-within}
 use Rattle.hogunlas.proofs.Opening.{opened-by, counts-small}
 use Rattle.hogunlas.proofs.Printing.{line-refused, line-number, line-short, line-done}
@@ -40,8 +41,9 @@ returns : tie.Need-returns
 returns c =
     let found = as-accepted _ _ _ _ _ _ (c .before .before .before .judging2 .given .1) (c .before .before .before .before .before .before .judge-file .ensures) in
     let counted = c .before .line-count .ensures in
+    let past : c .before .line-count .result ≤ c .before .before .before .before .before .before .before .before .before .before .before .before .before .before .args .i = c .if1 .taken in
     rw (← counted) at
-    (line-number (c .before .before .before .before .before .before .before .before .before .before .before .before .before .before .args .file .now) (c .before .before .before .before .before .before .before .before .before .before .before .before .before .before .args .i) (c .before .before .before .before .before .before .before .before .before .before .before .before .before .before .args .out .now) (c .before .before .before .judging2 .given .0 .0) (found .accepted .report) (opened-by found) (rw counted at (c .if1 .taken)))
+    (line-number (c .before .before .before .before .before .before .before .before .before .before .before .before .before .before .args .file .now) (c .before .before .before .before .before .before .before .before .before .before .before .before .before .before .args .i) (c .before .before .before .before .before .before .before .before .before .before .before .before .before .before .args .out .now) (c .before .before .before .judging2 .given .0 .0) (found .accepted .report) (opened-by found) (rw counted at past))
 
 -- `return Printed::Refused(Refusal::ShortBuffer(LINE_SIZE))`
 returns-2 : tie.Need-returns-2
