@@ -107,7 +107,7 @@ fn every_table_of_answers_is_what_the_calls_answer() {
 #[test]
 fn fields_records_and_accesses_are_refused_as_the_tables_say() {
     let page = Page::read();
-    assert!(examples::op_table(&page, &Reimplementation) >= 15 * 3);
+    assert_eq!(examples::op_table(&page, &Reimplementation), 15);
     assert!(examples::kind_table(&page, &Reimplementation) >= 1_000);
     assert_eq!(examples::access_table(&page, &Reimplementation), 4 * 2 * 4);
 }
@@ -556,6 +556,14 @@ fn the_version_stands_first_and_in_the_last_table() {
     let versions = page.table("version | what changed");
     let newest = versions.rows.last().expect("a version");
     assert_eq!(version, Some(newest[0].as_str()));
+}
+
+/// The example that other tests, the C program and the README use.
+#[test]
+fn the_stored_example_is_the_pages() {
+    let stored = concat!(env!("CARGO_MANIFEST_DIR"), "/../examples/standard.bin");
+    let stored = std::fs::read(stored).expect("examples/standard.bin");
+    assert_eq!(named_file(&Page::read(), "standard"), stored);
 }
 
 /// The tables of the page are read and not only passed over.

@@ -103,26 +103,40 @@ fn judges(calls: &impl Answers, file: &[u8], wanted: &str) {
 
 /// The tables of files with judge's answer.
 pub fn judged_tables(page: &Page, calls: &impl Answers) -> usize {
-    let broken = page.table("broken | code | answer");
-    for row in &broken.rows {
-        judges(calls, &file("0", "", &row[1]), &row[2]);
-    }
-    let order = page.table("bytes | answer | why");
-    for row in &order.rows {
-        judges(calls, &bytes(&row[0]), &row[1]);
-    }
-    let cases = page.table("proved | case | locks | variables | code | answer");
-    for row in &cases.rows {
-        judges(calls, &file(&row[2], &row[3], &row[4]), &row[5]);
-    }
-    let mistakes = page.table("mistake | locks | variables | code | answer");
-    for row in &mistakes.rows {
-        judges(calls, &file(&row[1], &row[2], &row[3]), &row[4]);
-    }
-    [broken, order, cases, mistakes]
-        .map(|table| table.rows.len())
+    answer_rows(page, calls, "broken | code | answer", |row| {
+        file("0", "", &row[1])
+    }) + answer_rows(page, calls, "bytes | answer | why", |row| bytes(&row[0]))
+        + answer_rows(
+            page,
+            calls,
+            "proved | case | locks | variables | code | answer",
+            |row| file(&row[2], &row[3], &row[4]),
+        )
+        + answer_rows(
+            page,
+            calls,
+            "mistake | locks | variables | code | answer",
+            |row| file(&row[1], &row[2], &row[3]),
+        )
+}
+
+/// Each row's file has the answer of its row.
+fn answer_rows(
+    page: &Page,
+    calls: &impl Answers,
+    head: &str,
+    file_of: impl Fn(&[String]) -> Vec<u8>,
+) -> usize {
+    let table = page.table(head);
+    let column = table
+        .head
         .iter()
-        .sum()
+        .position(|cell| cell == "answer")
+        .expect("answers");
+    for row in &table.rows {
+        judges(calls, &file_of(row), &row[column]);
+    }
+    table.rows.len()
 }
 
 /// The table of runs.
@@ -165,32 +179,26 @@ fn in_state(file: &[u8], state: &[u8], what: &str) -> u64 {
 /// The table of op codes: every op code, and for each of its fields the values about its range.
 pub fn op_table(page: &Page, calls: &impl Answers) -> usize {
     let table = page.table("op | name | a | b | c | what it does");
-    let mut checked = 0;
     for op in 0..=255 {
-        let row = table.rows.iter().find(|row| bytes(&row[0]) == [op]);
-        let Some(row) = row else {
-            assert!(
+        match table.rows.iter().find(|row| bytes(&row[0]) == [op]) {
+            Some(row) => (1..=3).for_each(|field| check_field(calls, op, field, &row[1 + field])),
+            None => assert!(
                 is_wrong(calls, [op, 0, 0, 0]),
                 "{op:02X} is not in the table"
-            );
-            continue;
-        };
-        assert!(!is_wrong(calls, [op, 0, 0, 0]), "{row:?}");
-        for field in 1..=3 {
-            let limit = field_limit(&row[1 + field]);
-            for value in [limit - 1, limit].into_iter().filter(|&value| value < 256) {
-                let mut word = [op, 0, 0, 0];
-                word[field] = value as u8;
-                assert_eq!(
-                    is_wrong(calls, word),
-                    value >= limit,
-                    "{row:?}, {word:02X?}"
-                );
-                checked += 1;
-            }
+            ),
         }
     }
-    checked
+    table.rows.len()
+}
+
+/// The greatest value of a field is right and the next one wrong, if there is one.
+fn check_field(calls: &impl Answers, op: u8, field: usize, kind: &str) {
+    let limit = field_limit(kind);
+    for value in (limit - 1..=limit).filter(|&value| value < 256) {
+        let mut word = [op, 0, 0, 0];
+        word[field] = value as u8;
+        assert_eq!(is_wrong(calls, word), value == limit, "{word:02X?}");
+    }
 }
 
 const LOCKS: u8 = 3;
@@ -224,28 +232,38 @@ fn is_wrong(calls: &impl Answers, word: [u8; 4]) -> bool {
     calls.judge(&file) == Err(wrong)
 }
 
-/// The table of kinds: every kind with every g, at every number of locks and threads.
+/// The table of kinds: every kind with every g about the limits, at every number of locks and
+/// threads.
 pub fn kind_table(page: &Page, calls: &impl Answers) -> usize {
     let table = page.table("kind | name | g | who may use it");
+    let counts = (0..=MAX_LOCKS).flat_map(|locks| (1..=MAX_THREADS).map(move |t| (locks, t)));
     let mut checked = 0;
-    for locks in 0..=MAX_LOCKS {
-        for threads in 1..=MAX_THREADS {
-            for (kind, g) in (0..=5).flat_map(|kind| (0..=17).map(move |g| (kind, g))) {
-                let good = record_is_good(table, kind, g, locks, threads);
-                let mut file = vec![1, locks as u8, threads as u8, 0, 6];
-                file.extend([kind, g as u8, 0, 0, 0, 0]);
-                file.resize(file.len() + 2 * threads, 0);
-                let bad = Refusal {
-                    number: Refusal::RECORD,
-                    detail: 5,
-                };
-                let wanted = if good { Ok(vec![1; threads]) } else { Err(bad) };
-                assert_eq!(calls.judge(&file), wanted, "kind {kind}, g {g}");
-                checked += 1;
-            }
-        }
+    for (locks, threads) in counts {
+        let records = (0..=5).flat_map(|kind| (0..=17).map(move |g| (kind, g)));
+        checked += records
+            .map(|(kind, g)| check_record(table, calls, (kind, g), (locks, threads)))
+            .count();
     }
     checked
+}
+
+fn check_record(
+    table: &Table,
+    calls: &impl Answers,
+    (kind, g): (u8, usize),
+    (locks, threads): (usize, usize),
+) {
+    let mut file = vec![1, locks as u8, threads as u8, 0, 6];
+    file.extend([kind, g as u8, 0, 0, 0, 0]);
+    file.resize(file.len() + 2 * threads, 0);
+    let wanted = match record_is_good(table, kind, g, locks, threads) {
+        true => Ok(vec![1; threads]),
+        false => Err(Refusal {
+            number: Refusal::RECORD,
+            detail: 5,
+        }),
+    };
+    assert_eq!(calls.judge(&file), wanted, "kind {kind}, g {g}");
 }
 
 /// Whether the table has a row for this kind and its g is right.
@@ -261,44 +279,55 @@ fn record_is_good(table: &Table, kind: u8, g: usize, locks: usize, threads: usiz
     }
 }
 
-/// The table of accesses: with and without the lock, by the own and another thread.
+/// The table of accesses: each with and without the lock, by the own and by another thread.
 pub fn access_table(page: &Page, calls: &impl Answers) -> usize {
     let table = page.table("kind | READ | WRITE");
+    let cells = table.rows.iter().flat_map(|row| {
+        let accesses = [(&row[1], "READ r0 v0"), (&row[2], "WRITE r0 v0")];
+        accesses.map(|(rule, access)| (row[0].as_str(), rule.as_str(), access))
+    });
     let mut checked = 0;
-    for row in &table.rows {
-        let (variable, allowed): (&str, fn(bool, bool) -> bool) = match row[0].as_str() {
-            "guarded by lock g" => ("guarded k0 0", |holds, _| holds),
-            "own to thread g" => ("own t0 0", |_, own| own),
-            "fixed" => ("fixed 0", |_, _| true),
-            "open" => ("open 0", |_, _| true),
-            kind => panic!("no kind: {kind}"),
-        };
-        for (column, access) in [(1, "READ r0 v0"), (2, "WRITE r0 v0")] {
-            for (holds, own) in [(false, false), (false, true), (true, false), (true, true)] {
-                let good = match row[column].as_str() {
-                    "always" => true,
-                    "never" => false,
-                    "if g is in the set" | "if the thread is g" => allowed(holds, own),
-                    words => panic!("no rule: {words}"),
-                };
-                let body = if holds {
-                    format!("TAKE k0, {access}, GIVE k0")
-                } else {
-                    access.into()
-                };
-                let code = if own { body } else { format!("/ {body}") };
-                let refused = calls.judge(&file("1", variable, &code)).err();
-                let wanted = (!good).then_some(Refusal::ACCESS);
-                assert_eq!(
-                    refused.map(|refusal| refusal.number),
-                    wanted,
-                    "{row:?}, {code}"
-                );
-                checked += 1;
-            }
+    for (kind, rule, access) in cells {
+        for (holds, owns) in [(false, false), (false, true), (true, false), (true, true)] {
+            check_access(calls, kind, rule, access, (holds, owns));
+            checked += 1;
         }
     }
     checked
+}
+
+fn check_access(
+    calls: &impl Answers,
+    kind: &str,
+    rule: &str,
+    access: &str,
+    (holds, owns): (bool, bool),
+) {
+    let variable = match kind {
+        "guarded by lock g" => "guarded k0 0",
+        "own to thread g" => "own t0 0",
+        "fixed" => "fixed 0",
+        "open" => "open 0",
+        _ => panic!("no kind: {kind}"),
+    };
+    let allowed = match rule {
+        "always" => true,
+        "never" => false,
+        "if g is in the set" => holds,
+        "if the thread is g" => owns,
+        _ => panic!("no rule: {rule}"),
+    };
+    let locked = format!("TAKE k0, {access}, GIVE k0");
+    let body = if holds { &locked } else { access };
+    let code = if owns {
+        body.to_string()
+    } else {
+        format!("/ {body}")
+    };
+    let refused = calls.judge(&file("1", variable, &code)).err();
+    let wanted = (!allowed).then_some(Refusal::ACCESS);
+    let number = refused.map(|refusal| refusal.number);
+    assert_eq!(number, wanted, "{kind}, {code}");
 }
 
 /// The table of lines: each line of each printout of the page has just one of the forms, and there
