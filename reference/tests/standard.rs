@@ -14,7 +14,7 @@ use hogunlas_reference::nesting::MAX_OPEN;
 use hogunlas_reference::printout::{BENCH_INPUT, LINE_BUFFER};
 use hogunlas_reference::reader::*;
 use hogunlas_reference::standard::examples::{self, named_file, Answers};
-use hogunlas_reference::standard::notation::{self, instruction, number, numbers};
+use hogunlas_reference::standard::notation::{self, bytes, instruction, number, numbers};
 use hogunlas_reference::standard::{Block, Page};
 use hogunlas_reference::{bench, state_length, Counts, Refusal};
 
@@ -110,6 +110,27 @@ fn fields_records_and_accesses_are_refused_as_the_tables_say() {
     assert_eq!(examples::op_table(&page, &Reimplementation), 15);
     assert!(examples::kind_table(&page, &Reimplementation) >= 1_000);
     assert_eq!(examples::access_table(&page, &Reimplementation), 4 * 2 * 4);
+}
+
+/// The names of instructions and kinds are the printout's.
+#[test]
+fn names_are_as_the_tables_say() {
+    let page = Page::read();
+    let ops = page.table("op | name | a | b | c | what it does");
+    for row in &ops.rows {
+        let decoded = Instruction::decode([bytes(&row[0])[0], 0, 0, 0]).expect("an op code");
+        let shown = format!("{decoded:?}");
+        let name = shown.split(' ').next().unwrap_or_default();
+        assert_eq!(name.to_uppercase(), row[1]);
+    }
+    let kinds = page.table("kind | name | g | who may use it");
+    for row in &kinds.rows {
+        let kind = bytes(&row[0])[0];
+        let file = [1, 1, 1, 0, 6, kind, 0, 0, 0, 0, 0, 0, 0];
+        let line = line_in(LINE_BUFFER, &file, 4).expect("the variable's line");
+        let text = String::from_utf8(line).expect("a text");
+        assert_eq!(text.trim_end().split(' ').nth(4), Some(row[1].as_str()));
+    }
 }
 
 #[test]
