@@ -133,9 +133,21 @@ fn names_are_as_the_tables_say() {
     }
 }
 
+/// Each form is met: the page's printouts, and that of a file with all instructions and kinds.
 #[test]
 fn every_printed_line_has_one_of_the_forms() {
-    assert!(examples::line_forms(&Page::read()) >= 30);
+    let page = Page::read();
+    let cases = concat!(env!("CARGO_MANIFEST_DIR"), "/../examples/cases");
+    let file = std::fs::read(format!("{cases}/every_name.bin")).expect("a file");
+    let printout = std::fs::read_to_string(format!("{cases}/every_name.txt")).expect("a text");
+    let mut met = examples::line_forms(&page, &file, &printout);
+    for block in page.blocks("printout") {
+        let file = named_file(&page, &block.name);
+        met.extend(examples::line_forms(&page, &file, &block.lines.join("\n")));
+    }
+    let met: BTreeSet<usize> = met.into_iter().collect();
+    let forms = page.table("lines | how many | form").rows.len();
+    assert_eq!(met.len(), forms, "each form is met");
 }
 
 // The atomicities.

@@ -330,27 +330,29 @@ fn check_access(
     assert_eq!(number, wanted, "{kind}, {code}");
 }
 
-/// The table of lines: each line of each printout of the page has just one of the forms, and there
-/// are as many lines as the page says.
-pub fn line_forms(page: &Page) -> usize {
-    let table = page.table("lines | how many | form");
-    let mut checked = 0;
-    for block in page.blocks("printout") {
-        for line in &block.lines {
-            let forms = table
-                .rows
-                .iter()
-                .filter(|row| has_form(line, &row[0], &row[2]));
-            assert_eq!(forms.count(), 1, "{line}");
-            checked += 1;
-        }
-        let file = named_file(page, &block.name);
-        let report = crate::report_length(&file).expect("an accepted file");
-        let variables = usize::from(u16::from_be_bytes([file[3], file[4]])) / 6;
-        let threads = usize::from(file[2]);
-        assert_eq!(block.lines.len(), 4 + variables + report + threads);
-    }
-    checked
+/// The table of lines: each line of an accepted file's printout has just one of the forms, and
+/// there are as many as the page says. Answers the forms that were met, by their rows' numbers.
+pub fn line_forms(page: &Page, file: &[u8], printout: &str) -> Vec<usize> {
+    let report = crate::report_length(file).expect("an accepted file");
+    let variables = usize::from(u16::from_be_bytes([file[3], file[4]])) / 6;
+    let threads = usize::from(file[2]);
+    assert_eq!(printout.lines().count(), 4 + variables + report + threads);
+    printout.lines().map(|line| form_of(page, line)).collect()
+}
+
+/// The row of the only form that a line has.
+fn form_of(page: &Page, line: &str) -> usize {
+    let rows = page
+        .table("lines | how many | form")
+        .rows
+        .iter()
+        .enumerate();
+    let forms = rows.filter(|(_, row)| has_form(line, &row[0], &row[2]));
+    let forms: Vec<usize> = forms.map(|(number, _)| number).collect();
+    let [form] = forms[..] else {
+        panic!("not one form: {line}, {forms:?}")
+    };
+    form
 }
 
 /// Whether a line has a form, of which `NAME` stands for one of the names of its row.
