@@ -1,4 +1,5 @@
-//! What the repository's README shows of `run` is what the compiled library answers.
+//! What the repository's README shows of `run` is what the compiled library answers, and the version
+//! of the standard that it names is this crate's.
 
 mod stored;
 
@@ -106,4 +107,11 @@ fn the_uninterrupted_list_ends_alike() {
     let ((given, state), (counts, alike)) = (ran(&given), ran(&uninterrupted));
     assert_eq!(given.moved, counts.moved);
     assert_eq!(state, alike);
+}
+
+#[test]
+fn the_version_is_this_crates() {
+    let (major, minor) = (hogunlas::STANDARD_MAJOR, hogunlas::STANDARD_MINOR);
+    let named = format!("is version {major}.{minor}: `HOGUNLAS_STANDARD_MAJOR`");
+    assert!(readme().contains(&named), "{named}");
 }
