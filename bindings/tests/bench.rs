@@ -184,7 +184,7 @@ fn bench_waits_for_the_rest_of_its_input() {
     assert!(printed == hogunlas_reference::bench(&largest));
 }
 
-// ---- standard input and output that fail, as README's "What bench does with its input and output" says
+// ---- standard input and output that fail, as README's `What bench does with its input and output` says
 
 /// bench as a shell starts it, after a command and with redirections.
 fn shell(first: &str, redirections: &str) -> Command {
