@@ -6,7 +6,7 @@
 use Prim.Native.Nat.{ℕ}
 use mathlib.Core.Path.{_≡_, refl, ap, _∙_, subst}
 use mathlib.Core.Logic.{_↔_}
-use mathlib.Core.Bool.{Bool, true, false, not}
+use mathlib.Core.Bool.{true, false, not}
 use lib.Dec.{eqb}
 use borrow.Author.Tests.{eqb-true, eq-eqb, not-true}
 use Rattle.program.specs.View.{Access, none, reads, writes, takes, gives}
@@ -18,7 +18,7 @@ use Rattle.program.specs.declared.variable.Kind.the-variants.{Guarded, Own, Fix
 use Rattle.program.proofs.Answer.{fine-inj, require-inv, require-on}
 use Rattle.program.proofs.Differ.{differ}
 use Rattle.judge.specs.Discipline.{permits, kindAt, accessedSet}
-use Rattle.judge.specs.LockSet.{holds, withLock, withoutLock}
+use Rattle.judge.specs.LockSet.{holds}
 use Rattle.judge.specs.Rules.{Legal, legal-none, legal-read-guarded, legal-write-guarded, legal-read-own, legal-write-own, legal-read-fixed, legal-read-open, legal-write-open, legal-take, legal-give}
 use Rattle.judge.specs.declared.lock_set.LockSet.{LockSet}
 
