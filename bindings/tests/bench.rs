@@ -225,7 +225,7 @@ fn an_input_that_cannot_be_read_is_empty() {
 /// file, cut short or not.
 #[test]
 fn a_read_that_fails_ends_the_input() {
-    let example = stored::one(stored::EXAMPLES, "document");
+    let example = stored::one(stored::EXAMPLES, "standard");
     for (length, wanted) in [(20, &b"refused 1 at 20\n"[..]), (25, &example.printout)] {
         let (mut ours, theirs) = UnixStream::pair().expect("two sockets");
         theirs.set_nonblocking(true).expect("a setting");
