@@ -2,26 +2,27 @@
 --     effect-of       an instruction has its own effect
 --     does-branch     what IF and WHILE do, from the register's test
 --     effect-thread   the thread after an instruction of this effect
---     Moves           what a move leaves in the arrays
---     moves-storing, moves-keeping
---                     ... by an instruction of this effect, with a result and without
+--     registers-kept  registers that a Move does not change
+--     Accesses        what an instruction that does not wait does to what the threads share
+--     accesses        ... by its access
+--     thread-moved    the thread laid into its place has moved by the instruction
 use Prim.Native.Nat.{ℕ, _+_, _<_}
 use mathlib.Core.Path.{_≡_, refl, sym, ap, _∙_}
 use mathlib.Core.Bool.{Bool, true, false}
 use mathlib.Core.List.{List, []}
 use lib.Dec.{eqb}
 use lib.ListN.{length, getD, set}
-use lib.Seq.{set-getD}
 use Rattle.program.specs.View.{Access, none, accessOf}
 use Rattle.program.specs.Choice.{choose}
 use Rattle.program.specs.declared.instruction.Instruction.{Instruction}
 use Rattle.machine.specs.Step.{reg, Result, keeps, resultOf, stored, branch, placeAfter, registersAfter, threadAfter, waits, valueRead, variablesAfter, locksAfter}
-use Rattle.machine.specs.Internal.Effect.{Effect, Does}
-use Rattle.machine.specs.Internal.Kept.{threadsIn, moveThread}
+use Rattle.machine.specs.Internal.Effect.{Effect, Does, MovedBy}
+use Rattle.machine.specs.Internal.Kept.{threadIn, threadsIn, moveThread}
+use Rattle.machine.specs.declared.moves.Move.{Move}
 use Rattle.machine.specs.declared.moves.Move.the-variants.{Goes, Passes}
 use Rattle.machine.specs.declared.thread.Outcome.the-variants.{Moved, Waiting}
 use Rattle.machine.specs.declared.thread.Thread.{Thread}
-use Rattle.machine.proofs.Threads.{threads-at, threads-set}
+use Rattle.machine.proofs.Threads.{threads-at}
 
 pub effect-of : {i : Instruction} {r : List ℕ} {place : ℕ} → Effect i r place (accessOf i) (λ x. resultOf i x r) (placeAfter i r place)
 effect-of = record { access = refl; results = λ x. refl; goes = refl }
@@ -44,26 +45,27 @@ pub effect-thread : {i : Instruction} {th : Thread} {a : Access} {result : ℕ �
 unfolding threadAfter registersAfter
 effect-thread e x = rw (e .goes, e .results x)
 
--- the thread moves: variables, locks and threads afterwards
-abbrev pub Moves : Instruction → (t : ℕ) (vs ks ps : List ℕ) (rs : List (List ℕ)) (vs′ ks′ ps′ : List ℕ) (rs′ : List (List ℕ)) → Type 0
-Moves i t vs ks ps rs vs′ ks′ ps′ rs′ =
+-- registers that a Move does not change
+pub registers-kept : (i : Instruction) (m : Move) (x : ℕ) (before after : Thread) {a : Access} {next : ℕ} → MovedBy m x before after
+    → Does i (before .registers) (before .place) m → Effect i (before .registers) (before .place) a (λ _. keeps) next
+    → after .registers ≡ before .registers
+unfolding stored
+registers-kept i m x before after h d e = ap (λ (th : Thread). th .registers) (h i d ∙ effect-thread e x)
+
+-- an instruction that does not wait: its outcome, the variables and the locks afterwards, and the value that a READ finds
+abbrev pub Accesses : Instruction → (t : ℕ) (r vs ks vs′ ks′ : List ℕ) (x : ℕ) → Type 0
+Accesses i t r vs ks vs′ ks′ x =
     (Moved ≡ choose (waits (accessOf i) ks) Waiting Moved)
-    × (vs′ ≡ variablesAfter (accessOf i) (getD rs t []) vs)
+    × (vs′ ≡ variablesAfter (accessOf i) r vs)
     × (ks′ ≡ locksAfter (accessOf i) t ks)
-    × (threadsIn ps′ rs′ ≡ moveThread i vs t (threadsIn ps rs))
+    × (x ≡ valueRead (accessOf i) vs)
 
-module _ (i : Instruction) (t : ℕ) (vs ks ps : List ℕ) (rs : List (List ℕ)) (h : t < length (threadsIn ps rs)) where
-  pub moves-storing : {a : Access} {result : ℕ → Result} {next : ℕ} → Effect i (getD rs t []) (getD ps t 0) a result next → waits a ks ≡ false
-      → Moves i t vs ks ps rs (variablesAfter a (getD rs t []) vs) (locksAfter a t ks) (set ps t next) (set rs t (stored (result (valueRead a vs)) (getD rs t [])))
-  moves-storing {a} d w = rw (d .access) (
-    rw w,
-    refl,
-    refl,
-    threads-set ps rs t _ _
-        ∙ ap (set (threadsIn ps rs) t) (sym (ap (threadAfter i (valueRead a vs)) (threads-at ps rs t h) ∙ effect-thread d (valueRead a vs))),
-  )
+pub accesses : (i : Instruction) (t : ℕ) (r vs ks : List ℕ) {a : Access} → accessOf i ≡ a → waits a ks ≡ false
+    → Accesses i t r vs ks (variablesAfter a r vs) (locksAfter a t ks) (valueRead a vs)
+accesses i t r vs ks e w = rw e (rw w, refl, refl, refl)
 
-  pub moves-keeping : {a : Access} {next : ℕ} → Effect i (getD rs t []) (getD ps t 0) a (λ _. keeps) next → waits a ks ≡ false
-      → Moves i t vs ks ps rs (variablesAfter a (getD rs t []) vs) (locksAfter a t ks) (set ps t next) rs
-  unfolding stored
-  moves-keeping d w = rw (set-getD rs t []) at (moves-storing d w)
+-- the thread laid into its place has moved by the instruction
+pub thread-moved : (i : Instruction) (m : Move) (x t : ℕ) (vs ps : List ℕ) (rs : List (List ℕ)) (th : Thread) → t < length (threadsIn ps rs)
+    → Does i (getD rs t []) (getD ps t 0) m → x ≡ valueRead (accessOf i) vs → MovedBy m x (threadIn ps rs t) th
+    → set (threadsIn ps rs) t th ≡ moveThread i vs t (threadsIn ps rs)
+thread-moved i m x t vs ps rs th h d e f = rw (threads-at ps rs t h, ← e) (ap (set (threadsIn ps rs) t) (f i d))

@@ -4,6 +4,8 @@ use crate::moves::move_of;
 use crate::prepare::initial_values;
 use crate::state_bytes::write_state;
 use crate::thread::Outcome;
+use crate::thread::Thread;
+use crate::thread::moved_thread;
 use program::instruction::Instruction;
 use program::instruction::instruction_at;
 use program::layout::Layout;
@@ -16,7 +18,7 @@ use program::limits::VARIABLE_LIMIT;
 ghost use mathlib.Core.Path.{_≡_};
 ghost use mathlib.Core.List.{[], _++_};
 ghost use Prim.Native.Nat.{_≤_, _<_};
-ghost use lib.ListN.{length, getD, drop};
+ghost use lib.ListN.{length, getD, set, drop};
 ghost use Rattle.program.specs.Choice.{choose};
 ghost use Rattle.program.specs.View.{accessOf};
 ghost use Rattle.program.specs.Layout.{programOf};
@@ -29,13 +31,46 @@ ghost use Rattle.machine.specs.State.{stateBytes};
 ghost use Rattle.machine.specs.Step.{waits, variablesAfter, locksAfter, after, outcome};
 ghost use Rattle.machine.specs.Step as Step;
 ghost use Rattle.machine.specs.Run.{Entries, runFrom, run};
-ghost use Rattle.machine.specs.Internal.Kept.{Kept, stateIn, threadsIn, fromHere, moveThread};
+ghost use Rattle.machine.specs.Internal.Effect.{Doing, MovedBy};
+ghost use Rattle.machine.specs.Internal.Kept.{Kept, stateIn, threadIn, threadsIn, fromHere, moveThread};
 
 // How many entries moved, waited and were idle.
 pub struct Counts {
     pub moved: usize,
     pub waiting: usize,
     pub idle: usize,
+}
+
+// A thread's own part of a Move, where a READ finds `value`: its record is moved, and laid back into the arrays. Registers that the Move
+// does not change are not stored again.
+fn move_at(
+    m: Move,
+    value: u32,
+    at: usize,
+    places: &mut [usize; THREAD_LIMIT],
+    registers: &mut [[u32; REGISTER_COUNT]; THREAD_LIMIT],
+)
+    requires { ⌜ Doing m (threadIn (now places) (now registers) at) × (at < threadLimit)
+        × (length (threadsIn (now places) (now registers)) ≡ threadLimit) × (getD (now places) at 0 ≤ largestPlace) ⌝ }
+    ensures { λ r. ⌜ ((th : Thread) × MovedBy m value (threadIn (now (places .entry)) (now (registers .entry)) at) th
+        × (threadsIn (now (places .exit)) (now (registers .exit)) ≡ set (threadsIn (now (places .entry)) (now (registers .entry))) at th)) ⌝ }
+{
+    let th = Thread {
+        place: places[at],
+        registers: registers[at],
+    };
+    let moved = moved_thread(th, m, value);
+    places[at] = moved.place;
+    let row = moved.registers;
+    match m {
+        Move::Sets(_, _) => registers[at] = row,
+        Move::Reads(_, _) => registers[at] = row,
+        Move::Writes(_, _) => {}
+        Move::Takes(_) => {}
+        Move::Gives(_) => {}
+        Move::Goes(_) => {}
+        Move::Passes => {}
+    }
 }
 
 // The instruction at a thread's place: it waits, or the thread moves.
@@ -58,11 +93,11 @@ fn move_by(
         (moveThread i (now (variables .entry)) t (threadsIn (now (places .entry)) (now (registers .entry)))) ⌝ }
 {
     let at = t as usize;
-    let place = places[at];
-    let mut next = place + 1;
-    match move_of(i, registers, at, place) {
-        Move::Sets(a, x) => registers[at][a as usize] = x,
-        Move::Reads(a, v) => registers[at][a as usize] = variables[v as usize],
+    let m = move_of(i, registers, at, places[at]);
+    let mut value: u32 = 0;
+    match m {
+        Move::Sets(_, _) => {}
+        Move::Reads(_, v) => value = variables[v as usize],
         Move::Writes(v, x) => variables[v as usize] = x,
         Move::Takes(k) => {
             let n = k as usize;
@@ -72,10 +107,10 @@ fn move_by(
             locks[n] = t + 1;
         }
         Move::Gives(k) => locks[k as usize] = 0,
-        Move::Goes(there) => next = there,
+        Move::Goes(_) => {}
         Move::Passes => {}
     }
-    places[at] = next;
+    move_at(m, value, at, places, registers);
     Outcome::Moved
 }
 

@@ -1,15 +1,14 @@
 // A thread's part of the state, and what an entry of the list did (the standard, "The step machine").
 use crate::moves::Move;
-use crate::moves::move_of;
-use program::instruction::Instruction;
 use program::limits::REGISTER_COUNT;
 ghost use mathlib.Core.Path.{_≡_};
 ghost use Prim.Native.Nat.{_+_, _≤_, _<_};
 ghost use lib.ListN.{set};
-ghost use Rattle.program.specs.Limits.{lockLimit, variableLimit, registerCount};
+ghost use lib.Dec.{eqb};
+ghost use Rattle.program.specs.Choice.{choose};
+ghost use Rattle.program.specs.Limits.{registerCount};
 ghost use Rattle.program.specs.Internal.Bounds.{largestPlace};
-ghost use Rattle.program.specs.Internal.Sound.{FieldsGood};
-ghost use Rattle.machine.specs.Step.{threadAfter};
+ghost use Rattle.machine.specs.Internal.Effect.{Doing, MovedBy};
 
 pub struct Thread {
     pub place: usize,
@@ -22,16 +21,41 @@ pub enum Outcome {
     Idle,
 }
 
+// One register of eight: x if it is the one named.
+fn chosen(a: u8, k: u8, x: u32, y: u32) -> u32
+    ensures { λ r. ⌜ r ≡ choose (eqb a k) x y ⌝ }
+{
+    if a == k { x } else { y }
+}
+
+// The registers with another value in one. Each is chosen, so that all eight are stored together: a store of one alone makes the
+// processor wait where they are next read together.
+fn with_register(registers: [u32; REGISTER_COUNT], a: u8, x: u32) -> [u32; REGISTER_COUNT]
+    requires { ⌜ a < registerCount ⌝ }
+    ensures { λ r. ⌜ r ≡ set registers a x ⌝ }
+{
+    [
+        chosen(a, 0, x, registers[0]),
+        chosen(a, 1, x, registers[1]),
+        chosen(a, 2, x, registers[2]),
+        chosen(a, 3, x, registers[3]),
+        chosen(a, 4, x, registers[4]),
+        chosen(a, 5, x, registers[5]),
+        chosen(a, 6, x, registers[6]),
+        chosen(a, 7, x, registers[7]),
+    ]
+}
+
 // A thread at the next place, with another value in one register.
 fn stored(th: Thread, a: u8, x: u32) -> Thread
     requires { ⌜ (a < registerCount) × (th .place ≤ largestPlace) ⌝ }
     ensures { λ u. ⌜ u ≡ record { place = th .place + 1; registers = set (th .registers) a x } ⌝ }
 {
-    let mut r = th.registers;
-    r[a as usize] = x;
+    let r = th.registers;
+    let registers = with_register(r, a, x);
     Thread {
         place: th.place + 1,
-        registers: r,
+        registers: registers,
     }
 }
 
@@ -46,15 +70,13 @@ fn at_place(th: Thread, place: usize) -> Thread
     }
 }
 
-// A thread after an instruction, where a READ finds `value`.
-pub fn thread_after(i: Instruction, value: u32, th: Thread) -> Thread
-    requires { ⌜ FieldsGood lockLimit variableLimit i × (th .place ≤ largestPlace) ⌝ }
-    ensures { λ u. ⌜ u ≡ threadAfter i value th ⌝ }
+// A thread after a Move, where a READ finds `value`.
+pub fn thread_after(m: Move, value: u32, th: Thread) -> Thread
+    requires { ⌜ Doing m th × (th .place ≤ largestPlace) ⌝ }
+    ensures { λ u. ⌜ MovedBy m value th u ⌝ }
 {
-    let r = th.registers;
-    let one = [r; 1];
     let next = th.place + 1;
-    match move_of(i, &one, 0, th.place) {
+    match m {
         Move::Sets(a, x) => stored(th, a, x),
         Move::Reads(a, _) => stored(th, a, value),
         Move::Writes(_, _) => at_place(th, next),
@@ -65,10 +87,21 @@ pub fn thread_after(i: Instruction, value: u32, th: Thread) -> Thread
     }
 }
 
-// The same where the thread stands: lent, and replaced by what it is after the instruction.
-pub fn move_thread(th: &mut Thread, i: Instruction, value: u32)
-    requires { ⌜ FieldsGood lockLimit variableLimit i × (now th .place ≤ largestPlace) ⌝ }
-    ensures { λ r. ⌜ now (th .exit) ≡ threadAfter i value (now (th .entry)) ⌝ }
+// The same where the thread stands: lent, and replaced by what it is after the Move.
+pub fn move_thread(th: &mut Thread, m: Move, value: u32)
+    requires { ⌜ Doing m (now th) × (now th .place ≤ largestPlace) ⌝ }
+    ensures { λ r. ⌜ MovedBy m value (now (th .entry)) (now (th .exit)) ⌝ }
 {
-    *th = thread_after(i, value, *th);
+    *th = thread_after(m, value, *th);
+}
+
+// The same for who has no record to lend: a copy is lent, and handed back. The prover's own walk covers no reference to a record, so
+// that whoever makes one is proved by hand, and this one is.
+pub fn moved_thread(th: Thread, m: Move, value: u32) -> Thread
+    requires { ⌜ Doing m th × (th .place ≤ largestPlace) ⌝ }
+    ensures { λ u. ⌜ MovedBy m value th u ⌝ }
+{
+    let mut moved = th;
+    move_thread(&mut moved, m, value);
+    moved
 }

@@ -1,5 +1,6 @@
 -- The state as `run_list` keeps it: in arrays of the largest size, of which the first elements count.
---     threadsIn         threads, of their places and their registers
+--     threadIn          a thread, of the places and the registers of all
+--     threadsIn         all of them
 --     stateIn           the state in arrays
 --     fromHere          ... with nothing counted
 --     nobody            what is read where there is no thread
@@ -19,7 +20,11 @@ use Rattle.machine.specs.Step.{valueRead, threadAfter}
 use Rattle.machine.specs.Run.{Run}
 use Rattle.machine.specs.declared.thread.Thread.{Thread}
 
--- threads, of their places and their registers
+-- a thread, of the places and the registers of all
+abbrev pub threadIn : List ℕ → List (List ℕ) → ℕ → Thread
+threadIn places registers t = record { place = getD places t 0; registers = getD registers t [] }
+
+-- all of them
 unfoldable pub threadsIn : List ℕ → List (List ℕ) → List Thread
 threadsIn [] registers = []
 threadsIn (p ∷ places) [] = []

@@ -1,5 +1,5 @@
 -- `move_thread` meets its contract: a walk of its MIR, by hand. The borrow is opened, the record in it is copied and passed to `thread_after`, the record that comes back is stored, and the borrow is closed at it.
--- All that the proof knows of `thread_after` is that it meets its contract. What an instruction and a number own is had for nothing, from their relations.
+-- All that the proof knows of `thread_after` is that it meets its contract. What a Move and a number own is had for nothing, from their relations.
 -- Assumes nothing.
 use mathlib.Core.Path.{_≡_, refl}
 use Prim.Native.Nat.{ℕ, _<_, _≤_, _^_}
@@ -39,14 +39,12 @@ use denote.Triple.Spec.{Meets, tripleOf}
 use denote.Triple.Table.{entered, cited}
 use denote.Triple.Walked.{says, needs, Stays, stay-ref, stay-none, walkOf, AllGo, goes-none, goes-ref, Walks, ends-at, walked, walk-meets}
 use denote.Exit.{yes}
-use Rattle.program.specs.Limits.{lockLimit, variableLimit}
 use Rattle.program.specs.Internal.Bounds.{largestPlace}
-use Rattle.program.specs.Internal.Sound.{FieldsGood}
-use Rattle.program.specs.declared.instruction.Instruction.{Instruction}
-use Rattle.program.proofs.instruction.Instruction as I
-use Rattle.program.proofs.instruction.Instruction.Laws as I′
-use Rattle.machine.specs.Step.{threadAfter}
+use Rattle.machine.specs.Internal.Effect.{Doing, MovedBy}
+use Rattle.machine.specs.declared.moves.Move.{Move}
 use Rattle.machine.specs.declared.thread.Thread.{Thread}
+use Rattle.machine.proofs.moves.Move as Mv
+use Rattle.machine.proofs.moves.Move.Laws as Mv′
 use Rattle.machine.proofs.thread.Thread as T
 use Rattle.machine.proofs.thread.Thread.Laws as T′
 use Rattle.machine.proofs.thread.thread_after as thread-after
@@ -59,14 +57,14 @@ use Rattle.machine.proofs.thread.move_thread.Statement as stated
 use Rattle.machine.proofs.thread.move_thread.Code as code
 
 abbrev stayed : Stays (move-thread.ended .signature .params) (move-thread.ended .kept)
-stayed = (stay-ref (0 ∷ []) tt (plain (λ _. T.the-row)), (stay-none (λ _. I.the-row) yes, (stay-none (λ _. u32) yes, tt)))
+stayed = (stay-ref (0 ∷ []) tt (plain (λ _. T.the-row)), (stay-none (λ _. Mv.the-row) yes, (stay-none (λ _. u32) yes, tt)))
 
--- how a thread and an instruction are spelled as machine values
+-- how a thread and a Move are spelled as machine values
 abbrev vals : Thread → List Val
 vals = struct.vals T.the-type T′.the-laws
 
-abbrev spells : Instruction → List Val
-spells = enum.vals I.the-type I′.the-laws
+abbrev spells : Move → List Val
+spells = enum.vals Mv.the-type Mv′.the-laws
 
 module _ {M : Type 1} (𝓤 : URA M) (H : Heap 𝓤) (A : Atoms 𝓤) (mem : Memory → SProp 𝓤) (run : Routine → Fun 𝓤) where
   -- the contract that the proof cites
@@ -74,57 +72,57 @@ module _ {M : Type 1} (𝓤 : URA M) (H : Heap 𝓤) (A : Atoms 𝓤) (mem : Mem
   After = tripleOf 𝓤 H A thread-after.signature (thread-after.spec 𝓤 H A mem run)
 
   -- of what it ensures, the clause alone: it has no `&mut`, so what is said of last values is dropped
-  answered : (i : Instruction) (v : ℕ) (h r : Thread)
-      → ent 𝓤 (ensured 𝓤 H A thread-after.ended (thread-after.clauses 𝓤 H A mem run) tt (i, (v, (h, tt))) tt r) (fact 𝓤 (r ≡ threadAfter i v h))
-  answered i v h r = exE 𝓤 _ (λ ws. snd∗ 𝓤 (sem 𝓤 H A (lasts thread-after.ended tt (i, (v, (h, tt))) ws)) (fact 𝓤 (r ≡ threadAfter i v h)))
+  answered : (m : Move) (v : ℕ) (h r : Thread)
+      → ent 𝓤 (ensured 𝓤 H A thread-after.ended (thread-after.clauses 𝓤 H A mem run) tt (m, (v, (h, tt))) tt r) (fact 𝓤 (MovedBy m v h r))
+  answered m v h r = exE 𝓤 _ (λ ws. snd∗ 𝓤 (sem 𝓤 H A (lasts thread-after.ended tt (m, (v, (h, tt))) ws)) (fact 𝓤 (MovedBy m v h r)))
 
 module _ {M : Type 1} (𝓤 : URA M) (H : Heap 𝓤) (A : Atoms 𝓤) (W : Given 𝓤 H A) (at-mem : Memory → SProp 𝓤) (run : Routine → Fun 𝓤)
-    (κ : Lft) (q : Share) (b o : ℕ) (γ : GName) (h : Thread) (i : Instruction) (v : ℕ) (i-is : Is I.the-row i (spells i)) (v-fits : v < 2 ^ 32) where
-  abbrev x : RefT Thread × (Instruction × (ℕ × Unit {0}))
-  x = (record { ptr = (b, o); name = γ; now = h }, (i, (v, tt)))
+    (κ : Lft) (q : Share) (b o : ℕ) (γ : GName) (h : Thread) (m : Move) (v : ℕ) (m-is : Is Mv.the-row m (spells m)) (v-fits : v < 2 ^ 32) where
+  abbrev x : RefT Thread × (Move × (ℕ × Unit {0}))
+  x = (record { ptr = (b, o); name = γ; now = h }, (m, (v, tt)))
 
   abbrev at : List Val × (List Val × (List Val × Unit {0}))
-  at = (vptr b o ∷ [], (spells i, (vint w32 v ∷ [], tt)))
+  at = (vptr b o ∷ [], (spells m, (vint w32 v ∷ [], tt)))
 
   abbrev Post : Val → SProp 𝓤
   Post = walkOf 𝓤 H A move-thread.ended stayed (move-thread.clauses 𝓤 H A at-mem run) .post (((κ, tt), (q, tt), tt, x, at), tt)
 
-  exits : (r : Thread) → r ≡ threadAfter i v h
+  exits : (r : Thread) → MovedBy m v h r
       → ent 𝓤 (sep 𝓤 (A .obs γ (T.the-row .coded .code r)) (sep 𝓤 (A .bor κ (Body (mem T.the-row) b o γ)) (A .lft κ q))) (Post vunit)
   exits r e =
       qed W (‵ (fobs γ (T.the-row .coded .code r)) ∷ ‵ (fbor κ (Body (mem T.the-row) b o γ)) ∷ ‵ (flft κ q) ∷ []) ∵
       suffices ! _ (ends-at 𝓤 H A move-thread.ended stayed (move-thread.clauses 𝓤 H A at-mem run) W (((κ, tt), (q, tt), tt, x, at), tt) vunit tt (r, (tt, (tt, tt))) (tt, (tt, (tt, tt)))) $ says ! e $
       nothing ! $ move ! (3 ∷ 0 ∷ []) $ join ! $ frame ! $ feqI ! (List Val) (vptr b o ∷ []) (vptr b o ∷ []) refl $ fjoin3 ! $
-      nothing ! $ owned ! u32 (Is u32) (uint-makes 𝓤 H A W w32) v _ (refl, v-fits) $ fjoin ! $ owned ! I.the-row (Is I.the-row) (enum.makes I.the-type I′.the-plain 𝓤 H A) i _ i-is $ fjoin ! $
+      nothing ! $ owned ! u32 (Is u32) (uint-makes 𝓤 H A W w32) v _ (refl, v-fits) $ fjoin ! $ owned ! Mv.the-row (Is Mv.the-row) (enum.makes Mv.the-type Mv′.the-plain 𝓤 H A) m _ m-is $ fjoin ! $
       move ! (1 ∷ 0 ∷ []) $ fjoin ! $ feqI ! (List Val) (vunit ∷ []) (vunit ∷ []) refl $ move ! (1 ∷ 0 ∷ []) $ done !
 
   -- what `thread_after`'s triple binds outside
   abbrev to-after : After 𝓤 H A at-mem run .Ghost
-  to-after = ((tt, tt, tt, (i, (v, (h, tt))), (spells i, (vint w32 v ∷ [], (vals h, tt)))), tt)
+  to-after = ((tt, tt, tt, (m, (v, (h, tt))), (spells m, (vint w32 v ∷ [], (vals h, tt)))), tt)
 
-  goes-after : Is T.the-row h (vals h) → FieldsGood lockLimit variableLimit i × (h .place ≤ largestPlace) → ent 𝓤 (emp 𝓤) (After 𝓤 H A at-mem run .pre to-after)
+  goes-after : Is T.the-row h (vals h) → Doing m h × (h .place ≤ largestPlace) → ent 𝓤 (emp 𝓤) (After 𝓤 H A at-mem run .pre to-after)
   goes-after h-is good =
       qed W [] ∵ says ! good $ nothing ! $ frame ! $ nothing ! $ owned ! T.the-row (Is T.the-row) (struct.makes T.the-type T′.the-plain 𝓤 H A) h _ h-is $ fjoin ! $
-      owned ! u32 (Is u32) (uint-makes 𝓤 H A W w32) v _ (refl, v-fits) $ fjoin ! $ owned ! I.the-row (Is I.the-row) (enum.makes I.the-type I′.the-plain 𝓤 H A) i _ i-is $ fjoin ! $ done !
+      owned ! u32 (Is u32) (uint-makes 𝓤 H A W w32) v _ (refl, v-fits) $ fjoin ! $ owned ! Mv.the-row (Is Mv.the-row) (enum.makes Mv.the-type Mv′.the-plain 𝓤 H A) m _ m-is $ fjoin ! $ done !
 
   module _ (C : Calls 𝓤 H) (Λ : Loops 𝓤 H) (fm : FmC 𝓤 H (W .laws) C) (known : Triple 𝓤 (C #thread-after) (After 𝓤 H A at-mem run)) where
-    walk : FieldsGood lockLimit variableLimit i × (h .place ≤ largestPlace)
-        → ent 𝓤 (onEntry 𝓤 H A move-thread.signature (κ, tt) (q, tt) x at) (WpFn 𝓤 H C Λ code.function (vptr b o ∷ enum.val I.the-type I′.the-laws i ∷ vint w32 v ∷ []) Post)
+    walk : Doing m h × (h .place ≤ largestPlace)
+        → ent 𝓤 (onEntry 𝓤 H A move-thread.signature (κ, tt) (q, tt) x at) (WpFn 𝓤 H C Λ code.function (vptr b o ∷ enum.val Mv.the-type Mv′.the-laws m ∷ vint w32 v ∷ []) Post)
     walk good =
-        qed W ((‵ (flft κ q) ⊛ ‵ ftrue) ∷ ‵ (owns (MutRef (named 0) κ T.the-row ∷ I.the-row ∷ u32 ∷ []) x at) ∷ []) ∵
+        qed W ((‵ (flft κ q) ⊛ ‵ ftrue) ∷ ‵ (owns (MutRef (named 0) κ T.the-row ∷ Mv.the-row ∷ u32 ∷ []) x at) ∷ []) ∵
         split ! $ move ! (2 ∷ []) $ fsplit ! $ fsplit3 ! $ drop ! $ move ! (0 ∷ 1 ∷ 3 ∷ []) $
-        -- [obs; the borrow; the token; what i and v own; true]
-        enter ! C Λ code.function (vptr b o ∷ enum.val I.the-type I′.the-laws i ∷ vint w32 v ∷ []) _ $
+        -- [obs; the borrow; the token; what m and v own; true]
+        enter ! C Λ code.function (vptr b o ∷ enum.val Mv.the-type Mv′.the-laws m ∷ vint w32 v ∷ []) _ $
         alloc1 ! (λ l₀. alloc1 ! (λ l₁. alloc1 ! (λ l₂. alloc1 ! (λ l₃. alloc1 ! (λ l₄. alloc1 ! (λ l₅. alloc0 ! $ params1 ! $ pass1 ! (init ! 8 refl (tt, tt)) $
-        pass1 ! (init ! 6 refl (enum.lawful I.the-type I′.the-laws 𝓤 H A W tt .typed i _ i-is .0)) $ pass1 ! (init ! 4 refl (tt, record { fits = v-fits })) $ pass0 ! $
+        pass1 ! (init ! 6 refl (enum.lawful Mv.the-type Mv′.the-laws 𝓤 H A W tt .typed m _ m-is .0)) $ pass1 ! (init ! 4 refl (tt, record { fits = v-fits })) $ pass0 ! $
         move ! (12 ∷ 13 ∷ 14 ∷ []) $ opens ! tt T.the-row {h = h} b o (λ vs. spelt ! T.the-row (Is T.the-row) (shows 𝓤 H A T.the-row) vals (struct.tells T.the-type T′.the-laws) fullShare h vs b o $
         move ! (1 ∷ []) $ peeks ! T.the-row (Is T.the-row) (shows 𝓤 H A T.the-row) h (vals h) (λ h-is. move ! (1 ∷ 0 ∷ []) $
         -- [the thread's cell; what it owns; the open borrow; obs; auth; _5; …; _4; …; _3; …; _2; …; _1; …; room for _0; …]
         assigns ! (of-opd ! (load ! (from ! (hop ! (look ! 13 refl) (stop !))) (look-raw ! 0 refl))) (from ! (stop !)) (init ! 5 refl (struct.lawful T.the-type T′.the-laws 𝓤 H A W .typed h _ h-is .0)) $
         use0 W (raw (After 𝓤 H A at-mem run .pre to-after)) (goes-after h-is good) $
         calls-at ! fm (After 𝓤 H A at-mem run) known to-after (and-then ! (load ! (from ! (stop !)) (look ! 12 refl)) (and-then ! (load ! (from ! (stop !)) (look ! 10 refl)) (and-then ! (load ! (from ! (stop !)) (look ! 6 refl)) (no-more !)))) (λ w.
-        use1 W (later (some (λ (r : Thread). (‵ ftrue ⊛ ‵ (T.the-row .own r (w ∷ []))) ⊛ raw (ensured 𝓤 H A thread-after.ended (thread-after.clauses 𝓤 H A at-mem run) tt (i, (v, (h, tt))) tt r)))) (id⊢ 𝓤 _) $ await ! tt $ pick ! (λ r.
-        split ! $ move ! (1 ∷ []) $ use1 W (raw (fact 𝓤 (r ≡ threadAfter i v h))) (answered 𝓤 H A at-mem run i v h r) $ heard ! (r ≡ threadAfter i v h) (λ e. split ! $ drop ! $
+        use1 W (later (some (λ (r : Thread). (‵ ftrue ⊛ ‵ (T.the-row .own r (w ∷ []))) ⊛ raw (ensured 𝓤 H A thread-after.ended (thread-after.clauses 𝓤 H A at-mem run) tt (m, (v, (h, tt))) tt r)))) (id⊢ 𝓤 _) $ await ! tt $ pick ! (λ r.
+        split ! $ move ! (1 ∷ []) $ use1 W (raw (fact 𝓤 (MovedBy m v h r))) (answered 𝓤 H A at-mem run m v h r) $ heard ! (MovedBy m v h r) (λ e. split ! $ drop ! $
         peeks ! T.the-row (Is T.the-row) (shows 𝓤 H A T.the-row) r (w ∷ []) (λ r-is.
         -- [what the new thread owns; the cell; what the old one owns; the open borrow; obs; auth; _5; …]
         land ! (from ! (stop !)) (init ! 8 refl (struct.lawful T.the-type T′.the-laws 𝓤 H A W .typed r _ r-is .0)) $
@@ -140,12 +138,12 @@ module _ {M : Type 1} (𝓤 : URA M) (H : Heap 𝓤) (A : Atoms 𝓤) (W : Given
   move-thread-walks : (C : Calls 𝓤 H) (Λ : Loops 𝓤 H) → FmC 𝓤 H (W .laws) C → Triple 𝓤 (C #thread-after) (After 𝓤 H A at-mem run)
       → Walks 𝓤 H A move-thread.ended stayed (WpFn 𝓤 H C Λ code.function) (move-thread.clauses 𝓤 H A at-mem run)
   move-thread-walks C Λ fm known = walked 𝓤 H A move-thread.ended stayed (move-thread.clauses 𝓤 H A at-mem run) (WpFn 𝓤 H C Λ code.function)
-      (λ κs. (ptr-vals, (spells, (uint-vals w32, tt)))) (λ κs. (mut-tells (named 0) (κs .0) T.the-row, (enum.tells I.the-type I′.the-laws, (uint-tells w32, tt))))
-      (λ κs qs bounds a g are. needs 𝓤 (FieldsGood lockLimit variableLimit (a .1 .0) × (a .0 .now .place ≤ largestPlace)) _
+      (λ κs. (ptr-vals, (spells, (uint-vals w32, tt)))) (λ κs. (mut-tells (named 0) (κs .0) T.the-row, (enum.tells Mv.the-type Mv′.the-laws, (uint-tells w32, tt))))
+      (λ κs qs bounds a g are. needs 𝓤 (Doing (a .1 .0) (a .0 .now) × (a .0 .now .place ≤ largestPlace)) _
       (walk 𝓤 H A W at-mem run (κs .0) (qs .0) (a .0 .ptr .0) (a .0 .ptr .1) (a .0 .name) (a .0 .now) (a .1 .0) (a .1 .1 .0) (are .1 .0) (are .1 .1 .0 .1) C Λ fm known))
 
   goes : AllGo 𝓤 H A W 1 (move-thread.signature .params) (move-thread.ended .kept) stayed
-  goes = (goes-ref 𝓤 H A W 1 0 tt (plain (λ _. T.the-row)), (goes-none 𝓤 H A W 1 (λ _. I.the-row) yes (λ κs x f. refl), (goes-none 𝓤 H A W 1 (λ _. u32) yes (λ κs x f. refl), tt)))
+  goes = (goes-ref 𝓤 H A W 1 0 tt (plain (λ _. T.the-row)), (goes-none 𝓤 H A W 1 (λ _. Mv.the-row) yes (λ κs x f. refl), (goes-none 𝓤 H A W 1 (λ _. u32) yes (λ κs x f. refl), tt)))
 
 move-thread-meets : {M : Type 1} (𝓤 : URA M) (H : Heap 𝓤) (A : Atoms 𝓤) (W : Given 𝓤 H A) (at-mem : Memory → SProp 𝓤) (run : Routine → Fun 𝓤) (𝓣 : Tables 𝓤 H)
     → Triple 𝓤 (𝓣 .C #thread-after) (After 𝓤 H A at-mem run)

@@ -3,7 +3,6 @@ use mathlib.Core.Path.{_≡_, sym, _∙_}
 use borrow.Author.Needs.{needs}
 use Rattle.machine.specs.Step.{stored}
 use Rattle.machine.specs.Internal.Effect.{Does}
-use Rattle.machine.specs.declared.moves.Move.{Move}
 use Rattle.machine.proofs.Effect.{effect-thread}
 use Rattle.machine.proofs.thread.thread_after.Statement.{statement}
 use Rattle.machine.proofs.thread.thread_after.Tie as tie
@@ -12,33 +11,27 @@ use Rattle.machine.proofs.thread.thread_after.Tie as tie
 add-next : tie.Need-add-next
 add-next c = search needs
 
--- `match move_of(i, &one, 0, th.place)`
-slice-aggregate-move-of : tie.Need-slice-aggregate-move-of
-slice-aggregate-move-of c = search needs
-
-move-of-requires : tie.Need-move-of-requires
-move-of-requires c κs = search needs
-
--- what the Move says of the instruction, in the arm that knows it
-does : (c : tie.After-move-of) {m : Move} → c .move-of .result ≡ m
-    → let a = c .before .before .before .before .args in Does (a .i) (a .th .registers) (a .th .place) m
-does c e = rw e at (c .move-of .ensures)
-
 -- `Move::Sets(a, x) => stored(th, a, x)`
-enum-known-a : tie.Need-enum-known-a
-enum-known-a c = search needs
+enum-known-m : tie.Need-enum-known-m
+enum-known-m c = search needs
 
 stored-requires : tie.Need-stored-requires
 unfolding Does
-stored-requires c κs = (does (c .before .before .before) (c .before .a .given .1) .1, c .before .before .before .before .before .before .before .pre .1)
+stored-requires c κs =
+    let pre = c .before .before .before .before .pre in
+    let d = rw (c .before .m .given .1) at (pre .0 .1) in
+    (d .1, pre .1)
 
 -- `Move::Reads(a, _) => stored(th, a, value)`
-enum-known-a-2 : tie.Need-enum-known-a-2
-enum-known-a-2 c = search needs
+enum-known-m-2 : tie.Need-enum-known-m-2
+enum-known-m-2 c = search needs
 
 stored-requires-2 : tie.Need-stored-requires-2
 unfolding Does
-stored-requires-2 c κs = (does (c .before .before .before) (c .before .a2 .given .1) .1, c .before .before .before .before .before .before .before .pre .1)
+stored-requires-2 c κs =
+    let pre = c .before .before .before .before .pre in
+    let d = rw (c .before .m2 .given .1) at (pre .0 .1) in
+    (d .1, pre .1)
 
 -- `Move::Writes(_, _) => at_place(th, next)`
 enum-told : tie.Need-enum-told
@@ -62,8 +55,8 @@ at-place-requires-3 : tie.Need-at-place-requires-3
 at-place-requires-3 c κs = search needs
 
 -- `Move::Goes(there) => at_place(th, there)`
-enum-known-there : tie.Need-enum-known-there
-enum-known-there c = search needs
+enum-known-m-3 : tie.Need-enum-known-m-3
+enum-known-m-3 c = search needs
 
 at-place-requires-4 : tie.Need-at-place-requires-4
 at-place-requires-4 c κs = search needs
@@ -78,48 +71,46 @@ at-place-requires-5 c κs = search needs
 -- `Move::Sets(a, x) => stored(th, a, x)`
 returns : tie.Need-returns
 unfolding Does stored
-returns c = c .stored .ensures ∙ sym (effect-thread (does (c .before .before .before .before) (c .before .before .a .given .1) .0) _)
+returns c i d = let e = rw (c .before .before .m .given .1) at d in c .stored .ensures ∙ sym (effect-thread (e .0) _)
 
 -- `Move::Reads(a, _) => stored(th, a, value)`
 returns-2 : tie.Need-returns-2
 unfolding Does stored
-returns-2 c = c .stored2 .ensures ∙ sym (effect-thread (does (c .before .before .before .before) (c .before .before .a2 .given .1) .0) _)
+returns-2 c i d = let e = rw (c .before .before .m2 .given .1) at d in c .stored2 .ensures ∙ sym (effect-thread (e .0) _)
 
 -- `Move::Writes(_, _) => at_place(th, next)`
 returns-3 : tie.Need-returns-3
 unfolding Does stored
-returns-3 c = c .at-place .ensures ∙ sym (effect-thread (does (c .before .before .before) (c .before .enum-told .given .1) .1) _)
+returns-3 c i d = let e = rw (c .before .enum-told .given .1) at d in c .at-place .ensures ∙ sym (effect-thread (e .1) _)
 
 -- `Move::Takes(_) => at_place(th, next)`
 returns-4 : tie.Need-returns-4
 unfolding Does stored
-returns-4 c = c .at-place2 .ensures ∙ sym (effect-thread (does (c .before .before .before) (c .before .enum-told2 .given .1) .0) _)
+returns-4 c i d = let e = rw (c .before .enum-told2 .given .1) at d in c .at-place2 .ensures ∙ sym (effect-thread (e .0) _)
 
 -- `Move::Gives(_) => at_place(th, next)`
 returns-5 : tie.Need-returns-5
 unfolding Does stored
-returns-5 c = c .at-place3 .ensures ∙ sym (effect-thread (does (c .before .before .before) (c .before .enum-told3 .given .1) .0) _)
+returns-5 c i d = let e = rw (c .before .enum-told3 .given .1) at d in c .at-place3 .ensures ∙ sym (effect-thread (e .0) _)
 
 -- `Move::Goes(there) => at_place(th, there)`
 returns-6 : tie.Need-returns-6
 unfolding Does stored
-returns-6 c = c .at-place4 .ensures ∙ sym (effect-thread (does (c .before .before .before .before) (c .before .before .there .given .1)) _)
+returns-6 c i d = let e = rw (c .before .before .m3 .given .1) at d in c .at-place4 .ensures ∙ sym (effect-thread e _)
 
 -- `Move::Passes => at_place(th, next)`
 returns-7 : tie.Need-returns-7
 unfolding Does stored
-returns-7 c = c .at-place5 .ensures ∙ sym (effect-thread (does (c .before .before .before) (c .before .enum-told4 .given .1)) _)
+returns-7 c i d = let e = rw (c .before .enum-told4 .given .1) at d in c .at-place5 .ensures ∙ sym (effect-thread e _)
 
 pub thread-after-spec : {M : Type 1} → statement M
 thread-after-spec =
     tie.close
     (tie.spec
     add-next
-    slice-aggregate-move-of
-    move-of-requires
-    enum-known-a
+    enum-known-m
     stored-requires
-    enum-known-a-2
+    enum-known-m-2
     stored-requires-2
     enum-told
     at-place-requires
@@ -127,7 +118,7 @@ thread-after-spec =
     at-place-requires-2
     enum-told-3
     at-place-requires-3
-    enum-known-there
+    enum-known-m-3
     at-place-requires-4
     enum-told-4
     at-place-requires-5
