@@ -1,8 +1,9 @@
 // The standard's cases that have no star, executed through the public calls, then those of its mistakes that look reasonable which a call
-// can show. Each prints a line; the file stdout beside src/ holds what the standard says. (The starred cases are proved:
-// crates/hogunlas/specs/Cases.antt.)
+// can show, then moves of a thread whose record is lent. Each prints a line; the file stdout beside src/ holds what the standard says.
+// (The starred cases are proved: crates/hogunlas/specs/Cases.antt.)
 mod code;
 mod mistakes;
+mod moves;
 mod show;
 mod stated;
 
@@ -18,4 +19,6 @@ fn main() {
     mistakes::closure_of_atomic();
     mistakes::left_joined_with_right();
     mistakes::locks_of_the_then_part();
+    moves::results();
+    moves::places();
 }

@@ -53,6 +53,15 @@ pub fn byte(name: &[u8], of: u8) {
     text(b"\n");
 }
 
+// A thread: its place, then its registers.
+pub fn thread(name: &[u8], place: usize, registers: &[u32]) {
+    text(name);
+    decimal(b"place ", place);
+    text(b", registers");
+    words(registers);
+    text(b"\n");
+}
+
 // The first n bytes, or all if there are fewer.
 pub fn first<'a>(of: &'a [u8], n: usize) -> &'a [u8] {
     if of.len() < n {
@@ -74,6 +83,19 @@ fn bytes(of: &[u8]) {
         decimal(b" ", wide(of[i]));
         i += 1;
     }
+}
+
+// Each register's value, a blank before it.
+fn words(of: &[u32]) {
+    let mut i = 0;
+    while i < of.len() {
+        word(of[i]);
+        i += 1;
+    }
+}
+
+fn word(value: u32) {
+    decimal(b" ", value as usize);
 }
 
 fn wide(byte: u8) -> usize {
