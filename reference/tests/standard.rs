@@ -60,7 +60,7 @@ const COMPARED: [&str; 21] = [
     "fenced block | what it says",
 ];
 const FOR_THE_READER: [&str; 3] = [
-    "call | question",
+    "call | question | where",
     "offset | bytes | what",
     "version | what changed",
 ];
@@ -247,19 +247,20 @@ fn the_limits_are_the_reimplementations() {
             "entries open at once" => MAX_OPEN,
             "bytes of a variable record" => VARIABLE_BYTES,
             "bytes of an instruction" => INSTRUCTION_BYTES,
-            "bytes of a variable section" => MAX_VARIABLES * VARIABLE_BYTES,
-            "bytes of a code section" => MAX_INSTRUCTIONS * INSTRUCTION_BYTES,
+            "length of a variable section" => MAX_VARIABLES * VARIABLE_BYTES,
+            "length of a code section" => MAX_INSTRUCTIONS * INSTRUCTION_BYTES,
             "bytes of a file" => MAX_FILE,
             "bytes of a report" => MAX_REPORT,
             "bytes of a state" => MAX_VARIABLES * 4 + MAX_LOCKS + MAX_THREADS * (2 + REGISTERS * 4),
             "entries of a list" => MAX_LIST,
             "bytes of the buffer for a line" => LINE_BUFFER,
+            "lines of a printout" => 4 + MAX_VARIABLES + MAX_THREADS * (MAX_INSTRUCTIONS + 2),
             "bytes that bench reads" => BENCH_INPUT,
             unknown => panic!("no limit: {unknown}"),
         };
         assert_eq!(number(&row[1]), limit as u64, "{}", row[0]);
     }
-    assert_eq!(table.rows.len(), 16);
+    assert_eq!(table.rows.len(), 17);
 }
 
 #[test]
