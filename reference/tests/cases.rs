@@ -6,7 +6,7 @@ mod common;
 use common::{file, hex, judge_in, line_in, refused, run_in};
 use hogunlas_reference::atomicity::Atomicity;
 use hogunlas_reference::instruction::Instruction::{self, *};
-use hogunlas_reference::machine::{is_inside, Outcome, State};
+use hogunlas_reference::machine::{is_inside, Outcome, State, Thread};
 use hogunlas_reference::nesting::MAX_OPEN;
 use hogunlas_reference::reader::Program;
 use hogunlas_reference::{bench, generate, line_count, state_length, Counts, Refusal};
@@ -371,7 +371,49 @@ fn empty_cases() -> String {
     .concat()
 }
 
-/// `crates/cases` executes the cases without a star and the mistakes through the verified calls.
+/// A thread at place 6 with 3 in r0 and 5 in r1 after a step of this code, where v0 is 9.
+fn moved(name: &str, code: &[Instruction]) -> String {
+    let file = file(1, &[[2, 0, 0, 0, 0, 9]], &[code]);
+    let program = Program::read_accepted(&file).unwrap();
+    let mut state = State::start(&program);
+    let registers = [3, 5, 0, 0, 0, 0, 0, 0];
+    state.threads[0] = Thread {
+        place: 6,
+        registers,
+    };
+    assert_eq!(state.step(&program, 0), Outcome::Moved);
+    let Thread { place, registers } = state.threads[0];
+    let registers: String = registers.iter().map(|value| format!(" {value}")).collect();
+    format!("{name}: place {place}, registers{registers}\n")
+}
+
+/// What `crates/cases` prints of moves, each of the instruction at place 6.
+fn moves() -> String {
+    let plain = |n| vec![Set { to: 0, number: 0 }; n];
+    let at_6 = |name, rest: Vec<Instruction>| moved(name, &[plain(6), rest].concat());
+    let sub = |left, right| vec![Sub { to: 2, left, right }];
+    let v0 = vec![Read { to: 7, variable: 0 }];
+    let mut tests_r2 = repeat(&plain(3));
+    tests_r2[0] = While {
+        test: 2,
+        distance: 4,
+    };
+    let else_at_6 = [plain(5), choice(&[], &plain(3))].concat();
+    [
+        at_6("SUB r2 r1 r0", sub(1, 0)),
+        at_6("SUB r2 r0 r1", sub(0, 1)),
+        at_6("READ r7 v0", v0),
+        at_6("IF r0 4", choice(&plain(3), &[])),
+        at_6("WHILE r2 4", tests_r2),
+        moved("ELSE 4", &else_at_6),
+        moved("AGAIN 4", &[plain(2), repeat(&plain(3))].concat()),
+        moved("GIVE k0", &[plain(5), vec![TAKE, GIVE]].concat()),
+    ]
+    .concat()
+}
+
+/// `crates/cases` executes the cases without a star and the mistakes through the verified calls,
+/// and moves of a thread whose record is lent.
 #[test]
 fn the_test_program_prints_these_answers() {
     let of = |name, variable, code: &[Instruction]| judged(name, report(variable, code));
@@ -401,6 +443,7 @@ fn the_test_program_prints_these_answers() {
             GUARDED_BY_K0,
             &else_reads,
         ),
+        moves(),
     ];
     let stdout = include_str!("../../crates/cases/stdout");
     assert_eq!(lines.concat(), stdout);
