@@ -1,5 +1,5 @@
 -- `thread_after` meets its contract, Move by Move. Assumes nothing.
-use mathlib.Core.Path.{_≡_, sym, _∙_}
+use mathlib.Core.Path.{sym, _∙_}
 use borrow.Author.Needs.{needs}
 use Rattle.machine.specs.Step.{stored}
 use Rattle.machine.specs.Internal.Effect.{Does}
