@@ -1,12 +1,14 @@
 -- `move_by` meets its contract, Move by Move. Assumes nothing.
 use Prim.Native.Nat.{ℕ, _<_}
 use mathlib.Core.Path.{_≡_, refl, _∙_}
+use mathlib.Core.Bool.{false}
 use mathlib.Core.List.{List, []}
 use mathlib.Core.Logic.{inl, inr}
 use native.Mathlib.Omega.{arith}
 use borrow.Author.Needs.{needs}
 use borrow.Author.Tests.{eq-eqb, ne-eqb}
 use lib.ListN.{length, getD}
+use Rattle.program.specs.View.{Access, accessOf}
 use Rattle.program.specs.declared.instruction.Instruction.{Instruction}
 use Rattle.machine.specs.Step.{waits, valueRead, variablesAfter, locksAfter}
 use Rattle.machine.specs.Internal.Effect.{Does}
@@ -41,6 +43,11 @@ module _ (c : tie.After-move-of) where
   -- what the Move says of the instruction, in the arm that knows it
   does : {m : Move} → c .move-of .result ≡ m → Does i (getD rs t []) (getD ps t 0) m
   does e = rw e at (c .move-of .ensures)
+
+  -- an instruction that does not wait, by its access
+  free : {a : Access} → accessOf i ≡ a → waits a ks ≡ false
+      → Accesses i t (getD rs t []) vs ks (variablesAfter a (getD rs t []) vs) (locksAfter a t ks) (valueRead a vs)
+  free = accesses i t (getD rs t []) vs ks
 
   counted : t < length (threadsIn ps rs)
   counted = omega (arith, start .pre .1, start .pre .2)
@@ -140,15 +147,15 @@ unfolding Does waits valueRead variablesAfter locksAfter
 shared c =
     let b = c .before in
     let d = b .move-of .ensures in elim (c .match .came) [
-      | inl x ↦ rw (x .2, x .3, x .4, x .5) (d, accesses _ _ _ _ _ (does b (x .1 .given .1) .0 .access) refl)
-      | inr (inl x) ↦ let e = does b (x .1 .given .1) in rw (x .4, x .5, x .6, x .7) (e, accesses _ _ _ _ _ (e .0 .access) refl)
-      | inr (inr (inl x)) ↦ let e = does b (x .1 .given .1) in rw (x .3, x .4, x .5, x .6) (e, rw (← e .2) (accesses _ _ _ _ _ (e .1 .access) refl))
+      | inl x ↦ rw (x .2, x .3, x .4, x .5) (d, free b (does b (x .1 .given .1) .0 .access) refl)
+      | inr (inl x) ↦ let e = does b (x .1 .given .1) in rw (x .4, x .5, x .6, x .7) (e, free b (e .0 .access) refl)
+      | inr (inr (inl x)) ↦ let e = does b (x .1 .given .1) in rw (x .3, x .4, x .5, x .6) (e, rw (← e .2) (free b (e .1 .access) refl))
       | inr (inr (inr (inl x))) ↦
           let e = does b (x .1 .given .1) in
-          rw (x .5, x .6, x .7, x .8) (e, accesses _ _ _ _ _ (e .0 .access) (rw (eq-eqb _ 0 (x .4 .left))))
-      | inr (inr (inr (inr (inl x)))) ↦ let e = does b (x .1 .given .1) in rw (x .3, x .4, x .5, x .6) (e, accesses _ _ _ _ _ (e .0 .access) refl)
-      | inr (inr (inr (inr (inr (inl x))))) ↦ rw (x .2, x .3, x .4, x .5) (d, accesses _ _ _ _ _ (does b (x .1 .given .1) .access) refl)
-      | inr (inr (inr (inr (inr (inr x))))) ↦ rw (x .2, x .3, x .4, x .5) (d, accesses _ _ _ _ _ (does b (x .1 .given .1) .access) refl)
+          rw (x .5, x .6, x .7, x .8) (e, free b (e .0 .access) (rw (eq-eqb _ 0 (x .4 .left))))
+      | inr (inr (inr (inr (inl x)))) ↦ let e = does b (x .1 .given .1) in rw (x .3, x .4, x .5, x .6) (e, free b (e .0 .access) refl)
+      | inr (inr (inr (inr (inr (inl x))))) ↦ rw (x .2, x .3, x .4, x .5) (d, free b (does b (x .1 .given .1) .access) refl)
+      | inr (inr (inr (inr (inr (inr x))))) ↦ rw (x .2, x .3, x .4, x .5) (d, free b (does b (x .1 .given .1) .access) refl)
     ]
 
 -- `move_at(m, value, at, places, registers)`
