@@ -1,5 +1,4 @@
 -- `thread_after` meets its contract, Move by Move. Assumes nothing.
-use mathlib.Core.Path.{sym, _∙_}
 use borrow.Author.Needs.{needs}
 use Rattle.machine.specs.Step.{stored}
 use Rattle.machine.specs.Internal.Effect.{Does}
@@ -71,37 +70,37 @@ at-place-requires-5 c κs = search needs
 -- `Move::Sets(a, x) => stored(th, a, x)`
 returns : tie.Need-returns
 unfolding Does stored
-returns c i d = let e = rw (c .before .before .m .given .1) at d in c .stored .ensures ∙ sym (effect-thread (e .0) _)
+returns c i d = let e = rw (c .before .before .m .given .1) at d in rw (effect-thread (e .0) _) (c .stored .ensures)
 
 -- `Move::Reads(a, _) => stored(th, a, value)`
 returns-2 : tie.Need-returns-2
 unfolding Does stored
-returns-2 c i d = let e = rw (c .before .before .m2 .given .1) at d in c .stored2 .ensures ∙ sym (effect-thread (e .0) _)
+returns-2 c i d = let e = rw (c .before .before .m2 .given .1) at d in rw (effect-thread (e .0) _) (c .stored2 .ensures)
 
 -- `Move::Writes(_, _) => at_place(th, next)`
 returns-3 : tie.Need-returns-3
 unfolding Does stored
-returns-3 c i d = let e = rw (c .before .enum-told .given .1) at d in c .at-place .ensures ∙ sym (effect-thread (e .1) _)
+returns-3 c i d = let e = rw (c .before .enum-told .given .1) at d in rw (effect-thread (e .1) _) (c .at-place .ensures)
 
 -- `Move::Takes(_) => at_place(th, next)`
 returns-4 : tie.Need-returns-4
 unfolding Does stored
-returns-4 c i d = let e = rw (c .before .enum-told2 .given .1) at d in c .at-place2 .ensures ∙ sym (effect-thread (e .0) _)
+returns-4 c i d = let e = rw (c .before .enum-told2 .given .1) at d in rw (effect-thread (e .0) _) (c .at-place2 .ensures)
 
 -- `Move::Gives(_) => at_place(th, next)`
 returns-5 : tie.Need-returns-5
 unfolding Does stored
-returns-5 c i d = let e = rw (c .before .enum-told3 .given .1) at d in c .at-place3 .ensures ∙ sym (effect-thread (e .0) _)
+returns-5 c i d = let e = rw (c .before .enum-told3 .given .1) at d in rw (effect-thread (e .0) _) (c .at-place3 .ensures)
 
 -- `Move::Goes(there) => at_place(th, there)`
 returns-6 : tie.Need-returns-6
 unfolding Does stored
-returns-6 c i d = let e = rw (c .before .before .m3 .given .1) at d in c .at-place4 .ensures ∙ sym (effect-thread e _)
+returns-6 c i d = let e = rw (c .before .before .m3 .given .1) at d in rw (effect-thread e _) (c .at-place4 .ensures)
 
 -- `Move::Passes => at_place(th, next)`
 returns-7 : tie.Need-returns-7
 unfolding Does stored
-returns-7 c i d = let e = rw (c .before .enum-told4 .given .1) at d in c .at-place5 .ensures ∙ sym (effect-thread e _)
+returns-7 c i d = let e = rw (c .before .enum-told4 .given .1) at d in rw (effect-thread e _) (c .at-place5 .ensures)
 
 pub thread-after-spec : {M : Type 1} → statement M
 thread-after-spec =
