@@ -166,12 +166,12 @@ rust_faults() { # FOLDER LOG STATUS
 
 # ---- what the pages say
 
-# The pages name the toolchain that checks here.
+# A note, and no fault, where a page names another toolchain than the one that checks here: whether it proves is what counts.
 identity() {
     local version page
     version=$(rt version)
     for page in README.md docs/ARCHIVE.md; do
-        [ -n "$version" ] && grep -qF -- "$version" "$page" || echo "$page does not name the toolchain of this run: $version"
+        [ -n "$version" ] && grep -qF -- "$version" "$page" || echo "note: $page does not name the toolchain of this run: $version"
     done
 }
 
