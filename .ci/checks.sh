@@ -31,6 +31,14 @@ unlisted_crates() {
     done
 }
 
+# A crate that README names, folder and all, is proved.
+gone_crates() {
+    local crate
+    grep -oE '`crates/[a-z_0-9]+`' README.md | sed -E 's/.*\/(.*)`/\1/' | sort -u | while IFS= read -r crate; do
+        listed | grep -qxF "$crate" || echo "README.md names the crate $crate, which is not in crates.txt"
+    done
+}
+
 # Every crate has must-fail edits, and nothing else beside them: rt passes over what is not named NAME.edit.
 edit_folders() {
     local crate file
@@ -154,7 +162,7 @@ rust_faults() { # FOLDER LOG STATUS
     [ "$(rust_passed "$2")" -gt 0 ] || echo "$1/: 0 passed"
     [ "$3" -eq 0 ] || [ "$(rust_failed "$2")" -gt 0 ] || echo "cargo test in $1/ ended with status $3"
     run=$(($(tests_run "$2" tests/) + $(tests_run "$2" unittests:)))
-    [ "$run" -ge "$(tests_written "$1")" ] || echo "$1/: $run tests ran, and $(tests_written "$1") are written"
+    [ "$run" -eq "$(tests_written "$1")" ] || echo "$1/: $run tests ran, and $(tests_written "$1") are written"
     while read -r name; do
         [ "$(tests_run "$2" "$name")" -gt 0 ] || echo "$1/: no test of $name ran"
     done < <(tests_of "$1")

@@ -206,6 +206,69 @@ fn every_quotation_stands_in_the_standard() {
     );
 }
 
+/// The sections of the page by their titles, each with its subsections, without marks.
+fn sections(page: &str) -> Vec<(String, String)> {
+    let level = |line: &str| line.len() - line.trim_start_matches('#').len();
+    let lines: Vec<&str> = page.lines().collect();
+    let heads = (0..lines.len()).filter(|&at| level(lines[at]) > 0);
+    heads
+        .map(|head| {
+            let own = level(lines[head]);
+            let inner = lines[head + 1..]
+                .iter()
+                .take_while(|line| level(line) == 0 || level(line) > own);
+            let text = inner.copied().collect::<Vec<&str>>().join("\n");
+            let title = lines[head].trim_matches(['#', ' ']).to_string();
+            (title, plain(&text))
+        })
+        .collect()
+}
+
+/// Whether a file holds definitions that a reader must believe.
+fn is_believed(path: &Path) -> bool {
+    let has = |name: &str| path.iter().any(|part| part == name);
+    has("crates") && has("specs") && !has("Internal")
+}
+
+/// A reader finds a definition's sentence by the sections that its file cites.
+#[test]
+fn a_definition_cites_the_section_that_it_quotes() {
+    let page = Page::read();
+    let sections = sections(&page.text);
+    let mut wrong = Vec::new();
+    let mut met = 0;
+    for (path, file) in texts(&["crates"]) {
+        if !is_believed(&path) {
+            continue;
+        }
+        let all: Vec<String> = comments(&file, "--")
+            .iter()
+            .flat_map(|comment| quotations(comment))
+            .map(|quotation| quotation.words)
+            .collect();
+        let (titles, quoted): (Vec<String>, Vec<String>) = all
+            .into_iter()
+            .partition(|words| page.titles.contains(words));
+        let cited: Vec<&String> = sections
+            .iter()
+            .filter(|(title, _)| titles.contains(title))
+            .map(|(_, text)| text)
+            .collect();
+        for words in quoted {
+            met += 1;
+            if !cited.iter().any(|text| stands(text, &words)) {
+                wrong.push(format!("{}: {words}", path.display()));
+            }
+        }
+    }
+    assert!(met > 80, "only {met} quotations of definitions");
+    assert!(
+        wrong.is_empty(),
+        "in no section that the file cites:\n{}",
+        wrong.join("\n")
+    );
+}
+
 /// The first citation of a paper or of a request that is not in the tree: a word, then a digit.
 fn cited(words: &str) -> Option<String> {
     let words_then_digit = ["document ", "documents ", "source ", "No. "];

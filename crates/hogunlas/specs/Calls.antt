@@ -1,5 +1,5 @@
--- What each public call answers, and what its buffer then holds (the standard, "Atomicities", "The step machine", "Line and bench";
--- "Who can bring a number about" for the order of the refusals).
+-- What each public call answers, and what its buffer then holds (the standard, "The calls", "Atomicities", "The step machine", "Line
+-- and bench"; "Who can bring a number about" for the order of the refusals).
 use Prim.Native.Nat.{ℕ}
 use mathlib.Core.List.{List, [], _++_, flatten}
 use lib.ListN.{length, getD, take, drop}
@@ -26,7 +26,7 @@ use Rattle.hogunlas.specs.declared.Printed.the-variants as printed
 unfoldable pub laidOver : (bytes buffer : List ℕ) → List ℕ
 laidOver bytes buffer = bytes ++ drop (length bytes) buffer
 
--- what the buffer holds after a call that writes these bytes, or is refused
+-- what the buffer holds after a call that writes these bytes, or is refused: "After a refusal the whole buffer is as it was"
 abbrev pub bufferAfter : {A : Type 0} → (A → List ℕ) → Answer A → List ℕ → List ℕ
 bufferAfter bytes (fine a) buffer = laidOver (bytes a) buffer
 bufferAfter bytes (refused r) buffer = buffer

@@ -1,4 +1,4 @@
--- The rules of judging as derivations (the standard, "Lock discipline", "Rules").
+-- The rules of judging as derivations (the standard, "Lock discipline", "Rules", "The report").
 -- What judging finds is exactly what these rules derive (`proofs/Rules.antt`); they speak of no offset and of no order of offences.
 --
 -- In order: the lock discipline, a rule for each access and kind of variable; the rules, one for each construct; the report of a

@@ -1,4 +1,5 @@
--- Fields and sections (the standard, "The file": "Big-endian", "A section is a 2-byte length, then that many bytes").
+-- Fields and sections (the standard, "The file": "Big-endian", "A section is a 2-byte length, then that many bytes"; "Who can bring a
+-- number about": 1, 4).
 use Prim.Native.Nat.{ℕ, _+_, _*_, _/_, _%_}
 use mathlib.Core.Bool.{Bool, _&&_}
 use mathlib.Core.List.{List}

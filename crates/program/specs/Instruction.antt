@@ -1,4 +1,4 @@
--- The table of op codes (the standard, "The file": "An instruction has 4 bytes: op, a, b, c").
+-- The table of op codes (the standard, "The file": "An instruction has 4 bytes: op, a, b, c"; "Who can bring a number about": 7).
 use Prim.Native.Nat.{ℕ, _+_, _*_}
 use mathlib.Core.Bool.{Bool, true, false, _&&_}
 use mathlib.Core.List.{List, [], _∷_}

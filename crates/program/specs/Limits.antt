@@ -1,5 +1,5 @@
--- Limits and sizes (the standard), in its order, each with the sentence that sets it: no other definition or contract writes these
--- numbers. They are abbreviations, so a proof sees the number. src/limits.rt has the same names for code.
+-- Limits and sizes (the standard, "Limits", "The file", "The report", "The step machine", "Line and bench", "Who can bring a number
+-- about"), in its order, each with the sentence that sets it: no other definition or contract writes these numbers. They are abbreviations, so a proof sees the number. src/limits.rt has the same names for code.
 use Prim.Native.Nat.{ℕ, _+_, _*_}
 
 -- The file
@@ -33,7 +33,7 @@ instructionSize = 4
 abbrev pub instructionLimit : ℕ
 instructionLimit = 1024
 
--- "above 384 or 4,096": the bytes of a variable section and of a code section, without the length
+-- "above 384 or 4,096" ("Who can bring a number about"): the bytes of a variable section and of a code section, without the length
 abbrev pub variableSectionLimit : ℕ
 variableSectionLimit = variableSize * variableLimit
 
@@ -72,7 +72,7 @@ threadSize = 2 + wordSize * registerCount
 abbrev pub sizeOfState : (variables locks threads : ℕ) → ℕ
 sizeOfState variables locks threads = wordSize * variables + locks + threadSize * threads
 
--- "list above 65,536"
+-- "list above 65,536" ("Who can bring a number about")
 abbrev pub listLimit : ℕ
 listLimit = 65536
 

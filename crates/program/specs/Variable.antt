@@ -1,4 +1,5 @@
--- Variable records (the standard, "The file": "A variable record has 6 bytes: kind, g, initial value").
+-- Variable records (the standard, "The file": "A variable record has 6 bytes: kind, g, initial value"; "Who can bring a
+-- number about": 6).
 use Prim.Native.Nat.{ℕ, _+_}
 use mathlib.Core.Bool.{Bool, true, false}
 use mathlib.Core.List.{List}

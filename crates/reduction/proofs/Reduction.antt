@@ -1,4 +1,4 @@
--- The reduction theorem (Lipton; Flanagan and Qadeer, Theorem 1), and what an instance reads off it. Assumes nothing.
+-- The reduction theorem, and what an instance reads off it. Assumes nothing.
 --     reduction                a trace that begins and ends with everybody outside can be made uninterrupted
 --     uninterrupted-trace      an uninterrupted trace is a trace
 --     same-length, same-count  as many moves, in all and of each thread

@@ -1,6 +1,6 @@
--- Demand 3 (the standard, "The step machine"): "one claim about a whole list, not one for each entry: it compares the whole end states
--- of the given and the uninterrupted list, and their moved counts". Also promised of the uninterrupted list ("What is promised"): each
--- thread makes its moves of the given list in their order, and the blocks keep their turn.
+-- Demand 3 (the standard, "What is promised"): "one claim about a whole list, not one for each entry: it compares the whole end states
+-- of the given and the uninterrupted list, and their moved counts". Also promised of the uninterrupted list: each thread makes its moves
+-- of the given list in their order, and the blocks keep their turn.
 use Prim.Native.Nat.{ℕ}
 use mathlib.Core.Path.{_≡_}
 use mathlib.Core.List.{List}
