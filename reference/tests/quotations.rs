@@ -144,6 +144,15 @@ fn quotations(comment: &str) -> Vec<Quotation> {
     found
 }
 
+/// The quotations in the comments of a text.
+fn quoted(text: &str, marker: &str) -> Vec<Quotation> {
+    let comments = comments(text, marker);
+    comments
+        .iter()
+        .flat_map(|comment| quotations(comment))
+        .collect()
+}
+
 /// Without the marks of code and emphasis.
 fn plain(text: &str) -> String {
     joined(&text.replace(['`', '*'], ""))
@@ -184,10 +193,7 @@ fn every_quotation_stands_in_the_standard() {
         let Some(marker) = marker(&path) else {
             continue;
         };
-        for quotation in comments(&file, marker)
-            .iter()
-            .flat_map(|comment| quotations(comment))
-        {
+        for quotation in quoted(&file, marker) {
             met += 1;
             let right = match quotation.is_title {
                 true => page.titles.contains(&quotation.words),
@@ -241,20 +247,17 @@ fn a_definition_cites_the_section_that_it_quotes() {
         if !is_believed(&path) {
             continue;
         }
-        let all: Vec<String> = comments(&file, "--")
-            .iter()
-            .flat_map(|comment| quotations(comment))
-            .map(|quotation| quotation.words)
-            .collect();
-        let (titles, quoted): (Vec<String>, Vec<String>) = all
+        let all = quoted(&file, "--")
             .into_iter()
-            .partition(|words| page.titles.contains(words));
+            .map(|quotation| quotation.words);
+        let (titles, sentences): (Vec<String>, Vec<String>) =
+            all.partition(|words| page.titles.contains(words));
         let cited: Vec<&String> = sections
             .iter()
             .filter(|(title, _)| titles.contains(title))
             .map(|(_, text)| text)
             .collect();
-        for words in quoted {
+        for words in sentences {
             met += 1;
             if !cited.iter().any(|text| stands(text, &words)) {
                 wrong.push(format!("{}: {words}", path.display()));
@@ -307,9 +310,8 @@ fn no_comment_cites_a_paper_that_is_not_in_the_tree() {
 #[test]
 fn a_wrong_quotation_is_found() {
     let antt = "-- a (the standard, \"The file\", \"Cases\"; \"none\": \"op,\n-- a .. c\"), `b\"x\"`\nx = y -- \"z\"\n";
-    let found: Vec<(String, bool)> = comments(antt, "--")
-        .iter()
-        .flat_map(|comment| quotations(comment))
+    let found: Vec<(String, bool)> = quoted(antt, "--")
+        .into_iter()
         .map(|quotation| (quotation.words, quotation.is_title))
         .collect();
     let wanted = [
@@ -324,9 +326,8 @@ fn a_wrong_quotation_is_found() {
         wanted.map(|(words, is_title)| (words.to_string(), is_title))
     );
     let c = "/* a \"b\n * c\" */\nint x; /* \"d\" */\nchar *s = \"// e\"; // \"f\"\n";
-    let found: Vec<String> = comments(c, "//")
-        .iter()
-        .flat_map(|comment| quotations(comment))
+    let found: Vec<String> = quoted(c, "//")
+        .into_iter()
         .map(|quotation| quotation.words)
         .collect();
     assert_eq!(found, ["b c", "d", "f"]);
