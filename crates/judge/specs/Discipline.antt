@@ -1,14 +1,16 @@
 -- What an instruction that is no opener or closer may do, what it does to the lock set, and its atomicity (the standard, "Lock
 -- discipline", "Atomicities"; "Who can bring a number about": 9, 10, 11).
 use Prim.Native.Nat.{ℕ}
-use mathlib.Core.Bool.{Bool, true, false, not}
+use mathlib.Core.Bool.{Bool, true, false, not, _||_}
 use lib.ListN.{getD}
 use lib.Dec.{eqb}
 use Rattle.atomicity.specs.declared.Atomicity.{Atomicity}
 use Rattle.atomicity.specs.declared.Atomicity.the-variants as atomicity
 use Rattle.program.specs.View.{Access, none, reads, writes, takes, gives, accessOf}
 use Rattle.program.specs.Answer.{Answer, fine, require}
+use Rattle.program.specs.Choice.{choose}
 use Rattle.program.specs.Layout.{Program}
+use Rattle.program.specs.Writers.{writtenByOther}
 use Rattle.program.specs.declared.instruction.Instruction.{Instruction}
 use Rattle.program.specs.declared.refusal.Refusal.the-variants as refusal
 use Rattle.program.specs.declared.variable.Kind.{Kind}
@@ -39,13 +41,13 @@ accessedSet p c d (gives k) s = require (holds s k) (refusal.NotTaken d) (fine (
 unfoldable pub lockSetAfter : Program → (c d : ℕ) → Instruction → LockSet → Answer LockSet
 lockSetAfter p c d i s = accessedSet p c d (accessOf i) s
 
--- "READ and WRITE of an open variable are A"
+-- "a WRITE of an open variable is A, a READ of an open variable is B if no other thread's code has a WRITE of it, and A otherwise"
 unfoldable pub accessAtomicity : Program → (c v : ℕ) → (isWrite : Bool) → Atomicity
 accessAtomicity p c v isWrite = elim (kindAt p v) [
   | Guarded g ↦ atomicity.Both
   | Own g ↦ atomicity.Both
   | Fixed ↦ atomicity.Both
-  | Open ↦ atomicity.Atomic
+  | Open ↦ choose (isWrite || writtenByOther p c v) atomicity.Atomic atomicity.Both
 ]
 
 -- what a move that makes this access with the lock set s is: "TAKE is R, GIVE is L, .. every other plain instruction is B"

@@ -6,6 +6,7 @@
 --     Stack        a stack that the code holds in an array
 --     Change       the open entries as the code holds them, and what an instruction does to them
 --     Walk         the walk over a code section as one pass
+--     Marks        the table of writers that the walk fills
 --     Seen         what proofs ask of each instruction: its view, and the registers that it names
 --     Sound        what a sound file is known to hold
 --     Sections     the table of sections
@@ -16,6 +17,7 @@ pub mod WellFormed
 pub mod Stack
 pub mod Change
 pub mod Walk
+pub mod Marks
 pub mod Seen
 pub mod Sound
 pub mod Sections

@@ -9,6 +9,7 @@
 --     View         what the rules see of an instruction: its access or its form
 --     Nesting      entries and named places
 --     Layout       the whole file, front to back, and its contents
+--     Writers      the threads that write a variable
 --     Code         structured code
 -- Internal holds what only proofs and inner functions use.
 pub mod Limits
@@ -21,5 +22,6 @@ pub mod Instruction
 pub mod View
 pub mod Nesting
 pub mod Layout
+pub mod Writers
 pub mod Code
 pub mod Internal

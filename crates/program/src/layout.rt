@@ -12,6 +12,7 @@ use crate::limits::CODE_SECTION_LIMIT;
 use crate::limits::INSTRUCTION_SIZE;
 use crate::limits::LOCK_LIMIT;
 use crate::limits::THREAD_LIMIT;
+use crate::limits::VARIABLE_LIMIT;
 use crate::limits::VARIABLE_SECTION_LIMIT;
 use crate::limits::VARIABLE_SIZE;
 use crate::refusal::Refusal;
@@ -22,11 +23,12 @@ ghost use mathlib.Core.Path.{_≡_};
 ghost use Prim.Native.Nat.{ℕ, _+_, _/_, _≤_};
 ghost use lib.ListN.{length};
 ghost use Rattle.program.specs.Field.{pairAt};
-ghost use Rattle.program.specs.Layout.{variableSection, codeSection, codeSections, reading};
+ghost use Rattle.program.specs.Layout.{variableSection, codesAt, codeSection, codeSections, instructionsAt, reading};
 ghost use Rattle.program.specs.Layout as File;
-ghost use Rattle.program.specs.Limits.{threadLimit, instructionSize};
+ghost use Rattle.program.specs.Limits.{threadLimit, instructionSize, variableLimit};
 ghost use Rattle.program.specs.Internal.Rows.{AreLimits, limitsOf, rowTable};
 ghost use Rattle.program.specs.Internal.Answered.{fieldAnswer, readingAnswer};
+ghost use Rattle.program.specs.Internal.Marks.{Marked, MarkedFile, codesIn, markedAll, markedCodes};
 
 // The counts of a sound file, by which every section is found.
 pub struct Layout {
@@ -71,17 +73,25 @@ fn variable_section(s: &[u8], c: Cursor, locks: usize, threads: usize) -> Field
 }
 
 // One thread's code section: all its instructions, then its nesting.
-fn code_section(rows: &[u8], limits: &[u16], s: &[u8], c: Cursor) -> Field
-    requires { ⌜ (now rows ≡ rowTable) × AreLimits (now limits) ⌝ }
+fn code_section(
+    rows: &[u8],
+    limits: &[u16],
+    s: &[u8],
+    c: Cursor,
+    bit: u8,
+    writers: &mut [u8; VARIABLE_LIMIT],
+) -> Field
+    requires { ⌜ (now rows ≡ rowTable) × AreLimits (now limits) × (length (now writers) ≡ variableLimit) ⌝ }
     ensures { λ r. ⌜ ((locks variables : ℕ) → now (limits .entry) ≡ limitsOf locks variables
-        → fieldAnswer r ≡ codeSection locks variables (now (s .entry)) c) ⌝ }
+        → (fieldAnswer r ≡ codeSection locks variables (now (s .entry)) c)
+        × Marked r (λ n. markedAll bit (instructionsAt locks variables (now (s .entry)) n (c .at + 2)) (now (writers .entry))) (now (writers .exit))) ⌝ }
 {
     let f = section(s, c, INSTRUCTION_SIZE, CODE_SECTION_LIMIT);
     let Field::Value(n, first) = f else {
         return f;
     };
     let start = first.at;
-    let walked = walk(rows, limits, s, start, n);
+    let walked = walk(rows, limits, s, start, n, bit, &mut *writers);
     match walked {
         Walked::Invalid(d) => Field::Refused(Refusal::Instruction(d)),
         Walked::Broken(d) => Field::Refused(Refusal::Nesting(d)),
@@ -95,16 +105,25 @@ fn code_section(rows: &[u8], limits: &[u16], s: &[u8], c: Cursor) -> Field
 }
 
 // The code sections of n threads: how many instructions they have together.
-fn code_sections(rows: &[u8], limits: &[u16], s: &[u8], c: Cursor, n: usize) -> Field
-    requires { ⌜ (now rows ≡ rowTable) × AreLimits (now limits) × (n ≤ threadLimit) ⌝ }
+fn code_sections(
+    rows: &[u8],
+    limits: &[u16],
+    s: &[u8],
+    c: Cursor,
+    n: usize,
+    writers: &mut [u8; VARIABLE_LIMIT],
+) -> Field
+    requires { ⌜ (now rows ≡ rowTable) × AreLimits (now limits) × (n ≤ threadLimit) × (length (now writers) ≡ variableLimit) ⌝ }
     ensures { λ r. ⌜ ((locks variables : ℕ) → now (limits .entry) ≡ limitsOf locks variables
-        → fieldAnswer r ≡ codeSections locks variables (now (s .entry)) n c) ⌝ }
+        → (fieldAnswer r ≡ codeSections locks variables (now (s .entry)) n c)
+        × Marked r (λ total. markedCodes 0 (codesAt locks variables (now (s .entry)) n (c .at)) (now (writers .entry))) (now (writers .exit))) ⌝ }
 {
     let mut at = c.at;
     let mut left = n;
     let mut total: usize = 0;
     while 0 < left {
-        let f = code_section(rows, limits, s, Cursor { at });
+        let bit = 1u8 << (n - left);
+        let f = code_section(rows, limits, s, Cursor { at }, bit, &mut *writers);
         let Field::Value(count, d) = f else {
             return f;
         };
@@ -116,9 +135,10 @@ fn code_sections(rows: &[u8], limits: &[u16], s: &[u8], c: Cursor, n: usize) -> 
 }
 
 // The whole file: three bytes, the variable section, a code section for each thread, and nothing left over.
-fn fields(rows: &[u8], s: &[u8]) -> Field
-    requires { ⌜ now rows ≡ rowTable ⌝ }
-    ensures { λ r. ⌜ fieldAnswer r ≡ File.fields (now (s .entry)) ⌝ }
+fn fields(rows: &[u8], s: &[u8], writers: &mut [u8; VARIABLE_LIMIT]) -> Field
+    requires { ⌜ (now rows ≡ rowTable) × (length (now writers) ≡ variableLimit) ⌝ }
+    ensures { λ r. ⌜ (fieldAnswer r ≡ File.fields (now (s .entry)))
+        × Marked r (λ total. markedCodes 0 (codesIn (now (s .entry))) (now (writers .entry))) (now (writers .exit)) ⌝ }
 {
     let f = byte_field(s, Cursor { at: 0 });
     let Field::Value(version, c1) = f else {
@@ -149,7 +169,7 @@ fn fields(rows: &[u8], s: &[u8]) -> Field
         return f;
     };
     let limits = limits_of(locks, variables);
-    let f = code_sections(rows, &limits, s, c4, threads);
+    let f = code_sections(rows, &limits, s, c4, threads, &mut *writers);
     let Field::Value(instructions, c5) = f else {
         return f;
     };
@@ -160,12 +180,12 @@ fn fields(rows: &[u8], s: &[u8]) -> Field
     Field::Value(instructions, c5)
 }
 
-// A file read front to back: sound, or the first offence.
-pub fn read(rows: &[u8], s: &[u8]) -> Reading
-    requires { ⌜ now rows ≡ rowTable ⌝ }
-    ensures { λ r. ⌜ readingAnswer r ≡ reading (now (s .entry)) ⌝ }
+// A file read front to back: sound, or the first offence. The writers of a sound file are marked in the table.
+pub fn read(rows: &[u8], s: &[u8], writers: &mut [u8; VARIABLE_LIMIT]) -> Reading
+    requires { ⌜ (now rows ≡ rowTable) × (length (now writers) ≡ variableLimit) ⌝ }
+    ensures { λ r. ⌜ (readingAnswer r ≡ reading (now (s .entry))) × MarkedFile r (now (s .entry)) (now (writers .entry)) (now (writers .exit)) ⌝ }
 {
-    let f = fields(rows, s);
+    let f = fields(rows, s, &mut *writers);
     match f {
         Field::Value(n, _) => Reading::Sound(Layout {
             locks: byte_at(s, 1),

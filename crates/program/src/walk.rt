@@ -1,10 +1,11 @@
 // One pass over a thread's code section: the fields of its instructions and its nesting together (the standard, "Who can bring a number
-// about": 7; 8 "after all 7s of that thread").
+// about": 7; 8 "after all 7s of that thread"), and the variables that it writes ("Rules").
 use crate::instruction::is_nesting;
 use crate::instruction::is_valid;
 use crate::instruction::row_of;
 use crate::limits::ENTRY_LIMIT;
 use crate::limits::INSTRUCTION_SIZE;
+use crate::limits::VARIABLE_LIMIT;
 use crate::nesting::Change;
 use crate::nesting::Entry;
 use crate::nesting::NOWHERE;
@@ -14,12 +15,15 @@ use crate::nesting::named;
 use crate::nesting::turn_at;
 ghost use mathlib.Core.Path.{_≡_};
 ghost use mathlib.Core.List.{[]};
-ghost use Prim.Native.Nat.{ℕ, _+_, _*_, _≤_};
+ghost use Prim.Native.Nat.{ℕ, _+_, _*_, _≤_, _<_};
+ghost use lib.Dec.{eqb};
 ghost use lib.ListN.{length};
 ghost use Rattle.program.specs.Layout.{instructionsAt, offsetFrom};
-ghost use Rattle.program.specs.Limits.{instructionLimit, instructionSize};
+ghost use Rattle.program.specs.Choice.{choose};
+ghost use Rattle.program.specs.Limits.{instructionLimit, instructionSize, variableLimit};
 ghost use Rattle.program.specs.Nesting.{firstBroken};
-ghost use Rattle.program.specs.Internal.Rows.{limitsOf, rowTable};
+ghost use Rattle.program.specs.Internal.Marks.{MarkedCode, markedAll, markedAt, writeRow};
+ghost use Rattle.program.specs.Internal.Rows.{AreLimits, limitsOf, rowTable};
 ghost use Rattle.program.specs.Internal.Walk.{firstInvalid, walked};
 ghost use Rattle.program.specs.declared.found.Found.the-variants.{At};
 
@@ -51,13 +55,38 @@ fn broken(rows: &[u8], limits: &[u16], s: &[u8], offset: usize, first: usize, n:
     Walked::Broken(offset)
 }
 
+// The row of WRITE.
+const WRITE: u8 = 7;
+
+// A WRITE of variable v by a code with this bit is marked in the table of writers.
+fn mark(row: u8, v: u8, bit: u8, writers: &mut [u8; VARIABLE_LIMIT])
+    requires { ⌜ (length (now writers) ≡ variableLimit) × (row ≡ writeRow → v < variableLimit) ⌝ }
+    ensures { λ r. ⌜ now (writers .exit) ≡ choose (eqb row writeRow) (markedAt bit v (now (writers .entry))) (now (writers .entry)) ⌝ }
+{
+    if row == WRITE {
+        let i = v as usize;
+        writers[i] = writers[i] | bit;
+    }
+}
+
 // The n instructions from an offset on. An opener or a closer changes the open entries, which are elements 1 to `depth` of an array, above
-// one that names no place; any other instruction has only to stand elsewhere than at the place that the innermost of them names.
-pub fn walk(rows: &[u8], limits: &[u16], s: &[u8], start: usize, n: usize) -> Walked
-    requires { ⌜ (now rows ≡ rowTable) × (length (now limits) ≡ 96) × (start + instructionSize * n ≤ length (now s)) × (n ≤ instructionLimit) ⌝ }
+// one that names no place; any other instruction has only to stand elsewhere than at the place that the innermost of them names. The WRITEs
+// are marked with the code's bit.
+pub fn walk(
+    rows: &[u8],
+    limits: &[u16],
+    s: &[u8],
+    start: usize,
+    n: usize,
+    bit: u8,
+    writers: &mut [u8; VARIABLE_LIMIT],
+) -> Walked
+    requires { ⌜ (now rows ≡ rowTable) × AreLimits (now limits) × (start + instructionSize * n ≤ length (now s)) × (n ≤ instructionLimit)
+        × (length (now writers) ≡ variableLimit) ⌝ }
     ensures { λ r. ⌜ ((locks variables : ℕ) → now (limits .entry) ≡ limitsOf locks variables
-        → r ≡ walked (firstInvalid locks variables (now (s .entry)) n start)
-        (offsetFrom start (firstBroken 0 (instructionsAt locks variables (now (s .entry)) n start) []))) ⌝ }
+        → (r ≡ walked (firstInvalid locks variables (now (s .entry)) n start)
+        (offsetFrom start (firstBroken 0 (instructionsAt locks variables (now (s .entry)) n start) [])))
+        × MarkedCode r (markedAll bit (instructionsAt locks variables (now (s .entry)) n start) (now (writers .entry))) (now (writers .exit))) ⌝ }
 {
     let mut entries = [Entry::Block(NOWHERE); ENTRY_LIMIT + 1];
     let mut depth = 0;
@@ -98,6 +127,7 @@ pub fn walk(rows: &[u8], limits: &[u16], s: &[u8], start: usize, n: usize) -> Wa
             if p == place {
                 return broken(rows, limits, s, at, at + INSTRUCTION_SIZE, n - p - 1);
             }
+            mark(row, b, bit, &mut *writers);
             p += 1;
         }
     }

@@ -6,7 +6,7 @@
 --     AreLimits                   ... of some numbers of locks and variables
 --     fits                        three fields below the limits of their row
 --     nestingRows                 the rows of openers and closers, a bit each
-use Prim.Native.Nat.{ℕ, zero, suc, _+_}
+use Prim.Native.Nat.{ℕ, zero, suc, _+_, _≤_}
 use mathlib.Core.Path.{_≡_}
 use mathlib.Core.Bool.{Bool, _&&_}
 use mathlib.Core.List.{List, [], _∷_, _++_, map}
@@ -14,7 +14,7 @@ use lib.ListN.{getD, take, replicate}
 use lib.Dec.{ltb, eqb}
 use Rattle.program.specs.Choice.{choose}
 use Rattle.program.specs.Instruction.{FieldKind, register, variable, lock, zero as zeroField, part, TableRow, table}
-use Rattle.program.specs.Limits.{registerCount}
+use Rattle.program.specs.Limits.{registerCount, variableLimit}
 
 -- the number of an op code's row, where the first row has number n
 abbrev pub position : (op n : ℕ) → List TableRow → ℕ
@@ -52,7 +52,7 @@ limitsOf locks variables =
 
 -- the limits of some numbers of locks and variables
 abbrev pub AreLimits : List ℕ → Type 0
-AreLimits limits = (locks : ℕ) × (variables : ℕ) × (limits ≡ limitsOf locks variables)
+AreLimits limits = (locks : ℕ) × (variables : ℕ) × (variables ≤ variableLimit) × (limits ≡ limitsOf locks variables)
 
 unfoldable pub fits : (limits : List ℕ) → (row a b c : ℕ) → Bool
 fits limits row a b c = ltb a (getD limits row 0) && ltb b (getD limits (32 + row) 0) && ltb c (getD limits (64 + row) 0)
