@@ -10,6 +10,8 @@
 --     row-plain           an instruction of a row without its bit is no opener or closer
 --     row-form            one of a row with its bit has the row's form
 --     instruction-access  locks and variables below their counts, at any offset, valid or not
+--     each-row, or-right  what a computed test says of all rows
+--     access-below        locks and variables below their counts
 --     access-wider        what lies below two counts lies below larger ones
 --     rows-at             the table of rows, by op code
 use Prim.Native.Nat.{ℕ, zero, suc, _+_, _-_, _*_, _/_, _%_, _^_, _<_, _≤_}
@@ -150,7 +152,7 @@ column-at locks variables m ks h small =
 -- three columns
 pub limits-length : (limits : List ℕ) → AreLimits limits → length limits ≡ 96
 unfolding limitsOf
-limits-length limits e = rw (e .2)
+limits-length limits e = rw (e .3)
 
 -- the kind of a field of row m
 kind-at : (a b c m : ℕ) (field : TableRow → FieldKind) → field noRow ≡ zeroField → map field (table a b c) ≡ kinds field
@@ -251,7 +253,7 @@ abbrev eachRow : (ℕ → TableRow → Bool) → (n : ℕ) → List TableRow →
 eachRow test n [] = true
 eachRow test n (r ∷ rs) = test n r && eachRow test (suc n) rs
 
-each-row : (test : ℕ → TableRow → Bool) (n m : ℕ) (rows : List TableRow) → eachRow test n rows ≡ true → m < length rows
+pub each-row : (test : ℕ → TableRow → Bool) (n m : ℕ) (rows : List TableRow) → eachRow test n rows ≡ true → m < length rows
     → test (n + m) (getD rows m noRow) ≡ true
 each-row test n m [] e h = absurd (let z : ⊥ = omega arith in z)
 each-row test n zero (r ∷ rs) e h = let same : n + 0 ≡ n = omega arith in rw same (and-eq-true-iff (test n r) (eachRow test (suc n) rs) .0 e .0)
@@ -278,7 +280,7 @@ plain-is (form.Again n) e = differ cc
 plain-is (form.Atomic n) e = differ cc
 plain-is form.End e = differ cc
 
-or-right : (x y : Bool) → (x || y) ≡ true → x ≡ false → y ≡ true
+pub or-right : (x y : Bool) → (x || y) ≡ true → x ≡ false → y ≡ true
 or-right true y e k = differ cc
 or-right false y e k = e
 
@@ -393,7 +395,7 @@ module _ (locks variables a b c : ℕ) where
           subst (AccessBelow locks variables) (sym (no-access-is (accessOf (getD (table a b c) m noRow .instruction)) (or-right (accesses (1 + m)) _ none-or e))) tt
 
 module _ (locks variables op a b c : ℕ) where
-  abbrev Below : Decoded → Type 0
+  abbrev pub Below : Decoded → Type 0
   Below d = AccessBelow locks variables (accessOf (decodedInstruction d))
 
   -- invalid bytes give END, which makes no access
@@ -402,7 +404,7 @@ module _ (locks variables op a b c : ℕ) where
   invalid-below (Valid i) e = differ cc
   invalid-below Invalid e = tt
 
-  access-below : Below (decode locks variables op a b c)
+  pub access-below : Below (decode locks variables op a b c)
   access-below = cases (isValid (decode locks variables op a b c)) refl
     where
       cases : (valid : Bool) → isValid (decode locks variables op a b c) ≡ valid → Below (decode locks variables op a b c)
