@@ -7,6 +7,7 @@
 --     Decode       what a decoded instruction's fields satisfy
 --     Seen         what the rules see of an instruction that a `_ =>` arm takes
 --     Contents     a file's contents by index
+--     Writers      the threads that write a variable
 --     Search       the search for the first offence
 --     Stack        a stack held in an array
 --     Change       what one instruction does to the open entries
@@ -31,6 +32,7 @@ pub mod Answer
 pub mod Decode
 pub mod Seen
 pub mod Contents
+pub mod Writers
 pub mod Search
 pub mod Stack
 pub mod Change
