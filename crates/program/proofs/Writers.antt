@@ -62,11 +62,11 @@ writer-from c v n [] e = differ cc
 writer-from c v n (x ∷ xs) e =
     or-cases (not (eqb n c) && hasWrite v (x .code)) (writtenFrom c v (suc n) xs) e
     (λ h.
-      let both = and-eq-true-iff (not (eqb n c)) (hasWrite v (x .code)) .0 h in
-      (0, (λ same. eqb-false n c (not-true (eqb n c) (both .0)) (omega (arith, same))), omega arith, both .1))
+    let both = and-eq-true-iff (not (eqb n c)) (hasWrite v (x .code)) .0 h in
+    (0, (λ same. eqb-false n c (not-true (eqb n c) (both .0)) (omega (arith, same))), omega arith, both .1))
     (λ h.
-      let w = writer-from c v (suc n) xs h in
-      (suc (w .0), (λ same. w .1 (omega (arith, same))), omega (arith, w .2), w .3))
+    let w = writer-from c v (suc n) xs h in
+    (suc (w .0), (λ same. w .1 (omega (arith, same))), omega (arith, w .2), w .3))
 
 pub written-by : (p : Program) (c u v : ℕ) → u ≢ c → hasWrite v (codeOf p u) ≡ true → writtenByOther p c v ≡ true
 unfolding writtenByOther codeOf
