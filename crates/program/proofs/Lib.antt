@@ -14,6 +14,7 @@
 --     Scan         the scan for the first place where nesting is broken
 --     Walking      the walk over a code section, one instruction at a time
 --     Marks        the table of writers, filled an instruction at a time
+--     WriterTable  what the table of writers says
 --     ReadBack     what is known where reading a part of the file answered a value
 --     CodeSections the code sections of the threads, as they are read
 --     Steps        the steps of the definition of reading
@@ -39,6 +40,7 @@ pub mod Change
 pub mod Scan
 pub mod Walking
 pub mod Marks
+pub mod WriterTable
 pub mod ReadBack
 pub mod CodeSections
 pub mod Steps

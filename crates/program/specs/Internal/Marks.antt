@@ -1,5 +1,6 @@
 -- The table of writers that walk 1 fills (src/walk.rt): a byte for each variable, with a bit for each code that has a WRITE of it.
 --     writeRow                the row of WRITE
+--     besides                 a byte has a bit besides one
 --     marked, markedAll       an instruction, and all of a code, with this bit
 --     markedCodes             the codes from number n on, each with its bit
 --     codesIn                 a file's codes
@@ -7,8 +8,10 @@
 --                             what is in the table after a walk, a section, the file that was read; of a refused one nothing is said
 use Prim.Native.Nat.{ℕ, suc, _/_, _^_}
 use mathlib.Core.Path.{_≡_}
+use mathlib.Core.Bool.{Bool, not}
 use mathlib.Core.List.{List, [], _∷_}
 use lib.Bits.{bitOr}
+use lib.Dec.{eqb}
 use lib.ListN.{getD, set}
 use Rattle.program.specs.Field.{byteAt, pairAt}
 use Rattle.program.specs.Layout.{CodeSection, codesAt, programOf}
@@ -25,6 +28,10 @@ use Rattle.program.specs.declared.walk.Walked.the-variants.{Nested, Inva
 
 abbrev pub writeRow : ℕ
 writeRow = 7
+
+-- a byte has a bit besides this one
+abbrev pub besides : (bit byte : ℕ) → Bool
+besides bit byte = not (eqb (bitOr byte bit) bit)
 
 abbrev pub markedAt : (bit v : ℕ) → List ℕ → List ℕ
 markedAt bit v table = set table v (bitOr (getD table v 0) bit)
