@@ -1,5 +1,5 @@
 // What a variable asks of a code that reads or writes it (the standard, "Lock discipline": "A guarded variable is read or written only
-// with its lock in the set; .."; "Atomicities"), as a byte, worked out once for each code.
+// with its lock in the set; .."; "Rules"), as a byte, worked out once for each code.
 use program::layout::Layout;
 use program::limits::RECORDS_START;
 use program::limits::VARIABLE_LIMIT;
@@ -7,12 +7,16 @@ use program::limits::VARIABLE_SIZE;
 use program::variable::Kind;
 use program::variable::kind_at;
 ghost use mathlib.Core.Path.{_≡_};
-ghost use mathlib.Core.Bool.{false, true};
+ghost use mathlib.Core.Bool.{Bool, false, true};
+ghost use Prim.Native.Nat.{_^_, _<_};
 ghost use lib.ListN.{length};
 ghost use Rattle.program.specs.Choice.{choose};
+ghost use Rattle.program.specs.Layout.{programOf};
 ghost use Rattle.program.specs.Limits.{variableLimit};
+ghost use Rattle.program.specs.Internal.Bounds.{codeLimit};
+ghost use Rattle.program.specs.Internal.Marks.{besides, writerTable};
 ghost use Rattle.program.specs.Internal.Sound.{SoundFile};
-ghost use Rattle.judge.specs.Internal.Rule.{free, never, ruleOf, RuleTables};
+ghost use Rattle.judge.specs.Internal.Rule.{free, never, ruleOf, single, RuleTables};
 
 // The access is B. Below 16 stands the lock that is to be held, and then the access is B too.
 pub const FREE: u8 = 16;
@@ -31,19 +35,37 @@ fn free_if(good: bool) -> u8
     NEVER
 }
 
-fn read_rule(kind: Kind, code: usize) -> u8
-    ensures { λ r. ⌜ r ≡ ruleOf kind code false ⌝ }
+fn single_if(others: bool) -> u8
+    ensures { λ r. ⌜ r ≡ choose others single free ⌝ }
+{
+    if others {
+        return SINGLE;
+    }
+    FREE
+}
+
+// "no other thread's code has a WRITE of it", by the bits of a variable's writers.
+fn written_by_other(writers: u8, code: usize) -> bool
+    requires { ⌜ code < codeLimit ⌝ }
+    ensures { λ r. ⌜ r ≡ besides (2 ^ code) writers ⌝ }
+{
+    let own = 1u8 << code;
+    writers | own != own
+}
+
+fn read_rule(kind: Kind, code: usize, others: bool) -> u8
+    ensures { λ r. ⌜ r ≡ ruleOf kind code false others ⌝ }
 {
     match kind {
         Kind::Guarded(g) => g,
         Kind::Own(g) => free_if((g as usize) == code),
         Kind::Fixed => FREE,
-        Kind::Open => SINGLE,
+        Kind::Open => single_if(others),
     }
 }
 
 fn write_rule(kind: Kind, code: usize) -> u8
-    ensures { λ r. ⌜ r ≡ ruleOf kind code true ⌝ }
+    ensures { λ r. ⌜ ((others : Bool) → r ≡ ruleOf kind code true others) ⌝ }
 {
     match kind {
         Kind::Guarded(g) => g,
@@ -58,16 +80,19 @@ pub fn fill_rules(
     s: &[u8],
     l: Layout,
     code: usize,
+    writers: &[u8; VARIABLE_LIMIT],
     reads: &mut [u8; VARIABLE_LIMIT],
     writes: &mut [u8; VARIABLE_LIMIT],
 )
-    requires { ⌜ SoundFile (now s) l × (length (now reads) ≡ variableLimit) × (length (now writes) ≡ variableLimit) ⌝ }
+    requires { ⌜ SoundFile (now s) l × (length (now reads) ≡ variableLimit) × (length (now writes) ≡ variableLimit) × (code < codeLimit)
+        × (now writers ≡ writerTable (programOf (now s) l)) ⌝ }
     ensures { λ r. ⌜ RuleTables (now (s .entry)) l code (now (reads .exit)) (now (writes .exit)) ⌝ }
 {
     let mut v: usize = 0;
     while v < l.variables {
         let kind = kind_at(s, RECORDS_START + VARIABLE_SIZE * v, l.locks, l.threads);
-        reads[v] = read_rule(kind, code);
+        let others = written_by_other(writers[v], code);
+        reads[v] = read_rule(kind, code, others);
         writes[v] = write_rule(kind, code);
         v += 1;
     }

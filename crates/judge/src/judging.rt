@@ -16,6 +16,7 @@ ghost use lib.ListN.{length};
 ghost use Rattle.program.specs.Layout.{programOf};
 ghost use Rattle.program.specs.Limits.{reportLimit};
 ghost use Rattle.program.specs.Internal.Bounds.{codeLimit};
+ghost use Rattle.program.specs.Internal.Marks.{writerTable};
 ghost use Rattle.program.specs.Internal.Rows.{rowTable};
 ghost use Rattle.program.specs.Internal.Sections.{SectionTable};
 ghost use Rattle.judge.specs.Internal.Judgement.{Judgement};
@@ -35,9 +36,11 @@ fn walk_codes(
     l: Layout,
     starts: &[usize; CODE_LIMIT],
     counts: &[usize; CODE_LIMIT],
+    writers: &[u8; VARIABLE_LIMIT],
     report: &mut [u8],
 ) -> Verdict
-    requires { ⌜ (now rows ≡ rowTable) × SectionTable (now s) l (now starts) (now counts) × (reportLimit ≤ length (now report)) ⌝ }
+    requires { ⌜ (now rows ≡ rowTable) × SectionTable (now s) l (now starts) (now counts) × (reportLimit ≤ length (now report))
+        × (now writers ≡ writerTable (programOf (now s) l)) ⌝ }
     ensures { λ r. ⌜ reported r (now (report .exit))
         ≡ scanCodes (programOf (now (s .entry)) l) 0 0 (now (report .entry)) (programOf (now (s .entry)) l .codes) ⌝ }
 {
@@ -46,7 +49,7 @@ fn walk_codes(
     let mut number = 0;
     let mut first = 0;
     while number < l.threads {
-        fill_rules(s, l, number, &mut reads, &mut writes);
+        fill_rules(s, l, number, writers, &mut reads, &mut writes);
         let start = starts[number];
         let count = counts[number];
         let c = Code {
@@ -76,12 +79,13 @@ pub fn judge_file(
     requires { ⌜ (now rows ≡ rowTable) × (length (now starts) ≡ codeLimit) × (length (now counts) ≡ codeLimit) × (reportLimit ≤ length (now report)) ⌝ }
     ensures { λ r. ⌜ Judgement (now (file .entry)) (now (starts .exit)) (now (counts .exit)) (now (report .entry)) (now (report .exit)) r ⌝ }
 {
-    let reading = read(rows, file);
+    let mut writers = [0u8; VARIABLE_LIMIT];
+    let reading = read(rows, file, &mut writers);
     match reading {
         Reading::Refused(refusal) => Judging::Refused(refusal),
         Reading::Sound(l) => {
             find_sections(file, l, &mut *starts, &mut *counts);
-            let verdict = walk_codes(rows, file, l, &*starts, &*counts, &mut *report);
+            let verdict = walk_codes(rows, file, l, &*starts, &*counts, &writers, &mut *report);
             match verdict {
                 Verdict::Refused(refusal) => Judging::Refused(refusal),
                 Verdict::Allowed => Judging::Done(l, l.instructions + l.threads),

@@ -17,11 +17,11 @@ use lib.Dec.{eqb, ltb}
 use lib.ListN.{length, getD, replicate, length-replicate, getD-replicate, length-set}
 use lib.Pow.{pow-lt, pow-pos}
 use lib.Seq.{getD-set-same, getD-set-other}
-use Rattle.program.specs.Layout.{CodeSection}
+use Rattle.program.specs.Layout.{Program, CodeSection}
 use Rattle.program.specs.Limits.{variableLimit}
 use Rattle.program.specs.View.{Access, none, reads, writes, takes, gives, accessOf}
-use Rattle.program.specs.Writers.{isWriteOf, hasWrite, writtenFrom}
-use Rattle.program.specs.Internal.Marks.{besides, marked, markedAll, markedCodes}
+use Rattle.program.specs.Writers.{isWriteOf, hasWrite, writtenFrom, writtenByOther}
+use Rattle.program.specs.Internal.Marks.{besides, marked, markedAll, markedCodes, writerTable}
 use Rattle.program.specs.declared.instruction.Instruction.{Instruction}
 
 -- ---- bits
@@ -151,7 +151,8 @@ module _ (c v : ℕ) where
       ∙ or-rotate (writtenFrom c v (suc n) xs) (not (eqb n c) && hasWrite v (x .code)) (beside t)
 
   -- no bit is set at first
-  pub table-says : (xs : List CodeSection) → v < variableLimit → beside (markedCodes 0 xs (replicate variableLimit 0)) ≡ writtenFrom c v 0 xs
-  table-says xs h =
-      codes-beside 0 xs (replicate variableLimit 0) (let l : length (replicate {A = ℕ} variableLimit 0) ≡ variableLimit = length-replicate variableLimit 0 in rw l h)
-      ∙ rw (getD-replicate {A = ℕ} variableLimit v 0 0 h, eq-eqb (2 ^ c) (2 ^ c) refl, or-false (writtenFrom c v 0 xs))
+  pub table-says : (p : Program) → v < variableLimit → besides (2 ^ c) (getD (writerTable p) v 0) ≡ writtenByOther p c v
+  unfolding writtenByOther
+  table-says p h =
+      codes-beside 0 (p .codes) (replicate variableLimit 0) (let l : length (replicate {A = ℕ} variableLimit 0) ≡ variableLimit = length-replicate {A = ℕ} variableLimit 0 in rw l h)
+      ∙ rw (getD-replicate {A = ℕ} variableLimit v 0 0 h, eq-eqb (2 ^ c) (2 ^ c) refl, or-false (writtenFrom c v 0 (p .codes)))

@@ -5,7 +5,7 @@
 --     RuleTables            the bytes of all variables for one code say what the lock discipline says
 use Prim.Native.Nat.{ℕ, _<_}
 use mathlib.Core.Path.{_≡_}
-use mathlib.Core.Bool.{Bool}
+use mathlib.Core.Bool.{Bool, _||_}
 use mathlib.Core.List.{List}
 use lib.Dec.{ltb, eqb}
 use lib.ListN.{length, getD}
@@ -32,11 +32,12 @@ single = 17
 abbrev pub never : ℕ
 never = 18
 
-abbrev pub ruleOf : Kind → (c : ℕ) → (isWrite : Bool) → ℕ
-ruleOf (Guarded g) c isWrite = g
-ruleOf (Own g) c isWrite = choose (eqb g c) free never
-ruleOf Fixed c isWrite = choose isWrite never free
-ruleOf Open c isWrite = single
+-- where others tells whether another code writes the variable
+abbrev pub ruleOf : Kind → (c : ℕ) → (isWrite others : Bool) → ℕ
+ruleOf (Guarded g) c isWrite others = g
+ruleOf (Own g) c isWrite others = choose (eqb g c) free never
+ruleOf Fixed c isWrite others = choose isWrite never free
+ruleOf Open c isWrite others = choose (isWrite || others) single free
 
 -- an access at file offset d with the lock set s
 unfoldable pub ruled : (rule d : ℕ) → LockSet → Effect

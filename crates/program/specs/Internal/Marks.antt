@@ -3,6 +3,7 @@
 --     besides                 a byte has a bit besides one
 --     marked, markedAll       an instruction, and all of a code, with this bit
 --     markedCodes             the codes from number n on, each with its bit
+--     writerTable             all codes of a program, from an empty table
 --     codesIn                 a file's codes
 --     MarkedCode, Marked, MarkedFile
 --                             what is in the table after a walk, a section, the file that was read; of a refused one nothing is said
@@ -12,10 +13,10 @@ use mathlib.Core.Bool.{Bool, not}
 use mathlib.Core.List.{List, [], _∷_}
 use lib.Bits.{bitOr}
 use lib.Dec.{eqb}
-use lib.ListN.{getD, set}
+use lib.ListN.{getD, set, replicate}
 use Rattle.program.specs.Field.{byteAt, pairAt}
-use Rattle.program.specs.Layout.{CodeSection, codesAt, programOf}
-use Rattle.program.specs.Limits.{variableSize, recordOffset}
+use Rattle.program.specs.Layout.{Program, CodeSection, codesAt, programOf}
+use Rattle.program.specs.Limits.{variableSize, variableLimit, recordOffset}
 use Rattle.program.specs.View.{Access, none, reads, writes, takes, gives, accessOf}
 use Rattle.program.specs.declared.cursor.Field.{Field}
 use Rattle.program.specs.declared.cursor.Field.the-variants.{Value, Refused}
@@ -50,6 +51,9 @@ markedAll bit (i ∷ is) table = markedAll bit is (marked bit (accessOf i) table
 unfoldable pub markedCodes : (n : ℕ) → List CodeSection → List ℕ → List ℕ
 markedCodes n [] table = table
 markedCodes n (x ∷ xs) table = markedCodes (suc n) xs (markedAll (2 ^ n) (x .code) table)
+
+abbrev pub writerTable : Program → List ℕ
+writerTable p = markedCodes 0 (p .codes) (replicate variableLimit 0)
 
 -- the codes of a file whose counts are right
 abbrev pub codesIn : List ℕ → List CodeSection
