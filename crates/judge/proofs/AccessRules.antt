@@ -4,7 +4,7 @@
 --     rules-filled  one variable more in both tables
 use Prim.Native.Nat.{ℕ, _+_, _≤_, _<_}
 use mathlib.Core.Path.{_≡_, refl, sym, _∙_, subst}
-use mathlib.Core.Bool.{Bool, true, false, not}
+use mathlib.Core.Bool.{Bool, true, false, not, _||_}
 use mathlib.Core.List.{List}
 use native.Mathlib.Decide.{ℕ-discrete}
 use native.Mathlib.Omega.{arith}
@@ -18,6 +18,7 @@ use Rattle.program.specs.Choice.{choose}
 use Rattle.program.specs.Layout.{programOf}
 use Rattle.program.specs.Limits.{lockLimit, recordOffset, variableLimit}
 use Rattle.program.specs.Variable.{kindOf, recorded, recordAt}
+use Rattle.program.specs.Writers.{writtenByOther}
 use Rattle.program.specs.Internal.Sound.{SoundFile}
 use Rattle.program.specs.declared.layout.Layout.{Layout}
 use Rattle.program.specs.declared.refusal.Refusal.the-variants as refusal
@@ -65,10 +66,15 @@ recorded-lock locks threads kind g few =
     valid false k h = record { locked = tt }
 
 -- an access by the byte of a kind
-module _ (d c : ℕ) (s : LockSet) (isWrite : Bool) where
+module _ (d c : ℕ) (s : LockSet) (isWrite others : Bool) where
   -- what an access of a variable of this kind comes to
   abbrev accessed : Kind → Effect
-  accessed k = choose (permits k c s isWrite) (passing (elim k [ Guarded g ↦ atomicity.Both | Own g ↦ atomicity.Both | Fixed ↦ atomicity.Both | Open ↦ atomicity.Atomic ])) (Refused (refusal.Access d))
+  accessed k = choose (permits k c s isWrite) (passing (elim k [
+    | Guarded g ↦ atomicity.Both
+    | Own g ↦ atomicity.Both
+    | Fixed ↦ atomicity.Both
+    | Open ↦ choose (isWrite || others) atomicity.Atomic atomicity.Both
+  ])) (Refused (refusal.Access d))
 
   own-says : (mine : Bool) → ruled (choose mine 16 18) d s ≡ choose mine Nothing (Refused (refusal.Access d))
   unfolding ruled
@@ -80,29 +86,45 @@ module _ (d c : ℕ) (s : LockSet) (isWrite : Bool) where
   fixed-says true = refl
   fixed-says false = refl
 
-  kind-says : (k : Kind) → LockGood k → ruled (ruleOf k c isWrite) d s ≡ accessed k
+  open-says : (a : Bool) → ruled (choose a 17 16) d s ≡ passing (choose a atomicity.Atomic atomicity.Both)
+  unfolding ruled
+  open-says true = refl
+  open-says false = refl
+
+  kind-says : (k : Kind) → LockGood k → ruled (ruleOf k c isWrite others) d s ≡ accessed k
   unfolding ruled permits
   kind-says (Guarded g) h = rw (lt-ltb g lockLimit h)
   kind-says (Own g) h = own-says (eqb g c)
   kind-says Fixed h = fixed-says isWrite
-  kind-says Open h = refl
+  kind-says Open h = open-says (isWrite || others)
 
 module _ (s : List ℕ) (l : Layout) (f : SoundFile s l) (c v : ℕ) (h : v < l .variables) where
+  -- whether another code writes variable v
+  abbrev othersThere : Bool
+  othersThere = writtenByOther (programOf s l) c v
+
   -- the kind that the record of variable v says
   abbrev kindThere : Kind
   kindThere = kindOf (recordAt (l .locks) (l .threads) s (recordOffset v))
+
+  -- and so the bytes
+  abbrev readThere : ℕ
+  readThere = ruleOf kindThere c false othersThere
+
+  abbrev writeThere : ℕ
+  writeThere = ruleOf kindThere c true othersThere
 
   kind-good : LockGood (kindAt (programOf s l) v)
   unfolding recordAt
   kind-good = subst LockGood (sym (kind-in s l v h)) (recorded-lock (l .locks) (l .threads) _ _ (f .locks) .locked)
 
-  read-says : (d : ℕ) (t : LockSet) → ruled (ruleOf kindThere c false) d t ≡ accessEffect (programOf s l) c d (reads v) t
+  read-says : (d : ℕ) (t : LockSet) → ruled (ruleOf kindThere c false othersThere) d t ≡ accessEffect (programOf s l) c d (reads v) t
   unfolding accessEffect accessAtomicity
-  read-says d t = rw (← kind-in s l v h) (kind-says d c t false (kindAt (programOf s l) v) kind-good)
+  read-says d t = rw (← kind-in s l v h) (kind-says d c t false othersThere (kindAt (programOf s l) v) kind-good)
 
-  write-says : (a d : ℕ) (t : LockSet) → ruled (ruleOf kindThere c true) d t ≡ accessEffect (programOf s l) c d (writes v a) t
+  write-says : (a d : ℕ) (t : LockSet) → ruled (ruleOf kindThere c true othersThere) d t ≡ accessEffect (programOf s l) c d (writes v a) t
   unfolding accessEffect accessAtomicity
-  write-says a d t = rw (← kind-in s l v h) (kind-says d c t true (kindAt (programOf s l) v) kind-good)
+  write-says a d t = rw (← kind-in s l v h) (kind-says d c t true othersThere (kindAt (programOf s l) v) kind-good)
 
 -- What holds at the head of the loop that fills the tables, before variable v
 pub record RulesFilled (s : List ℕ) (l : Layout) (c : ℕ) (readRules writeRules : List ℕ) (v : ℕ) : Type 0 where
@@ -123,7 +145,7 @@ filled-start s l c readRules writeRules p q = record {
 }
 
 module _ (s : List ℕ) (l : Layout) (f : SoundFile s l) (c : ℕ) (readRules writeRules : List ℕ) (v : ℕ) (x : RulesFilled s l c readRules writeRules v) where
-  pub filled-next : (h : v < l .variables) → RulesFilled s l c (set readRules v (ruleOf (kindThere s l f c v h) c false)) (set writeRules v (ruleOf (kindThere s l f c v h) c true)) (v + 1)
+  pub filled-next : (h : v < l .variables) → RulesFilled s l c (set readRules v (readThere s l f c v h)) (set writeRules v (writeThere s l f c v h)) (v + 1)
   filled-next h =
       let p : v < length readRules = omega (arith, x .reads-length, f .variables) in
       let q : v < length writeRules = omega (arith, x .writes-length, f .variables) in
@@ -132,12 +154,12 @@ module _ (s : List ℕ) (l : Layout) (f : SoundFile s l) (c : ℕ) (readRules wr
         reads-length = length-set readRules v _ ∙ x .reads-length;
         writes-length = length-set writeRules v _ ∙ x .writes-length;
         reading = λ u b d t. elim (ℕ-discrete u v) [
-          | yes e ↦ rw (e, getD-set-same readRules v (ruleOf (kindThere s l f c v h) c false) 0 p) (read-says s l f c v h d t)
-          | no n ↦ rw (getD-set-other readRules v u (ruleOf (kindThere s l f c v h) c false) 0 n) (x .reading u (omega (arith, n)) d t)
+          | yes e ↦ rw (e, getD-set-same readRules v (readThere s l f c v h) 0 p) (read-says s l f c v h d t)
+          | no n ↦ rw (getD-set-other readRules v u (readThere s l f c v h) 0 n) (x .reading u (omega (arith, n)) d t)
         ];
         writing = λ u a b d t. elim (ℕ-discrete u v) [
-          | yes e ↦ rw (e, getD-set-same writeRules v (ruleOf (kindThere s l f c v h) c true) 0 q) (write-says s l f c v h a d t)
-          | no n ↦ rw (getD-set-other writeRules v u (ruleOf (kindThere s l f c v h) c true) 0 n) (x .writing u a (omega (arith, n)) d t)
+          | yes e ↦ rw (e, getD-set-same writeRules v (writeThere s l f c v h) 0 q) (write-says s l f c v h a d t)
+          | no n ↦ rw (getD-set-other writeRules v u (writeThere s l f c v h) 0 n) (x .writing u a (omega (arith, n)) d t)
         ];
       }
 

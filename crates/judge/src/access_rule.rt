@@ -50,7 +50,7 @@ fn written_by_other(writers: u8, code: usize) -> bool
     ensures { λ r. ⌜ r ≡ besides (2 ^ code) writers ⌝ }
 {
     let own = 1u8 << code;
-    writers | own != own
+    (writers | own) != own
 }
 
 fn read_rule(kind: Kind, code: usize, others: bool) -> u8

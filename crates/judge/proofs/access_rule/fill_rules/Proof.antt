@@ -6,10 +6,10 @@ use Rattle.judge.proofs.access_rule.fill_rules.Statement.{statement}
 use Rattle.judge.proofs.access_rule.fill_rules.Tie as tie
 
 abbrev Inv-loop : tie.InvT-loop
-Inv-loop s l code reads₀ writes₀ v₀ reads writes v = RulesFilled s l code reads writes v
+Inv-loop s l code writers reads₀ writes₀ v₀ reads writes v = RulesFilled s l code reads writes v
 
 abbrev μ-loop : tie.MeasureT-loop
-μ-loop s l code reads₀ writes₀ v₀ reads writes v = l .variables - v
+μ-loop s l code writers reads₀ writes₀ v₀ reads writes v = l .variables - v
 
 loop-holds : tie.Need-loop-holds Inv-loop μ-loop
 loop-holds c = filled-start _ _ _ _ _ (c .before .pre .1) (c .before .pre .2)
@@ -24,7 +24,14 @@ add-kind-at c = omega arith
 kind-at-requires : tie.Need-kind-at-requires Inv-loop μ-loop
 kind-at-requires c κs = omega (arith, c .before .before .before .before .pre .0 .section)
 
--- `reads[v] = read_rule(kind, code)`
+-- `let others = written_by_other(writers[v], code)`
+element-copy-out-written-by-other : tie.Need-element-copy-out-written-by-other Inv-loop μ-loop
+element-copy-out-written-by-other c = omega arith
+
+written-by-other-requires : tie.Need-written-by-other-requires Inv-loop μ-loop
+written-by-other-requires c κs = omega arith
+
+-- `reads[v] = read_rule(kind, code, others)`
 read-rule-requires : tie.Need-read-rule-requires Inv-loop μ-loop
 read-rule-requires c κs = tt
 
@@ -63,6 +70,8 @@ fill-rules-spec =
     mul-kind-at
     add-kind-at
     kind-at-requires
+    element-copy-out-written-by-other
+    written-by-other-requires
     read-rule-requires
     element-write-reads
     write-rule-requires

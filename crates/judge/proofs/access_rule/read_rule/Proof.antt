@@ -21,9 +21,12 @@ free-if-requires c κs = search needs
 enum-told : tie.Need-enum-told
 enum-told c = search needs
 
--- `Kind::Open => SINGLE`
+-- `Kind::Open => single_if(others)`
 enum-told-2 : tie.Need-enum-told-2
 enum-told-2 c = search needs
+
+single-if-requires : tie.Need-single-if-requires
+single-if-requires c κs = search needs
 
 returns : tie.Need-returns
 returns c = search needs
@@ -35,7 +38,7 @@ returns-3 : tie.Need-returns-3
 returns-3 c = search needs
 
 returns-4 : tie.Need-returns-4
-returns-4 c = search needs
+returns-4 c = rw (c .before .enum-told2 .given .1) (c .single-if .ensures)
 
 pub read-rule-spec : {M : Type 1} → statement M
 read-rule-spec =
@@ -47,6 +50,7 @@ read-rule-spec =
     free-if-requires
     enum-told
     enum-told-2
+    single-if-requires
     returns
     returns-2
     returns-3

@@ -26,16 +26,16 @@ enum-told-2 : tie.Need-enum-told-2
 enum-told-2 c = search needs
 
 returns : tie.Need-returns
-returns c = search needs
+returns c others = search needs
 
 returns-2 : tie.Need-returns-2
-returns-2 c = rw (c .before .before .kind2 .given .1) (c .free-if .ensures)
+returns-2 c others = rw (c .before .before .kind2 .given .1) (c .free-if .ensures)
 
 returns-3 : tie.Need-returns-3
-returns-3 c = search needs
+returns-3 c others = search needs
 
 returns-4 : tie.Need-returns-4
-returns-4 c = search needs
+returns-4 c others = search needs
 
 pub write-rule-spec : {M : Type 1} → statement M
 write-rule-spec =
