@@ -56,7 +56,7 @@ fn the_limits_are_the_headers() {
     }
 }
 
-/// The version that the standard gives itself, by its line `Version 1.0.`.
+/// The version that the standard gives itself, by its line `Version 1.1.`.
 fn standard_version() -> String {
     let page = Path::new(env!("CARGO_MANIFEST_DIR")).join("../docs/STANDARD.md");
     let text = fs::read_to_string(page).expect("docs/STANDARD.md");
