@@ -22,7 +22,7 @@ const SIXTEEN_OPEN: &[u8] = &[
 const EVERY_NAME: &[u8] = &[1, 1, 1, 1, 1, 3, 1, 2, 1, 1, 4, 1, 1, 0, 0, 1, 0, 1, 0, 5];
 
 /// The files of `examples/cases/`, whose README says what each one shows.
-const STATED: [(&str, Stated); 30] = [
+const STATED: [(&str, Stated); 38] = [
     // Cases.
     ("empty_file", Err((1, 0))),
     ("sixteen_open", Ok(SIXTEEN_OPEN)),
@@ -37,13 +37,21 @@ const STATED: [(&str, Stated); 30] = [
     ("block_of_end", Ok(&[1, 0, 1])),
     ("block_guarded", Ok(&[4, 3, 1, 1, 2, 0, 4])),
     ("block_guarded_twice", Err((13, 13 + 4 * 9))),
-    ("block_open_within", Ok(&[4, 3, 4, 2, 0, 4])),
+    ("block_open_within", Ok(&[4, 3, 4, 2, 0, 4, 4, 4])),
+    ("block_unwritten_within", Ok(&[4, 3, 1, 2, 0, 4])),
     ("block_open_first", Err((13, 13 + 4 * 4))),
+    ("block_unwritten_first", Ok(&[4, 1, 3, 2, 0, 4])),
     ("two_threads", Ok(&[3, 2, 4, 3, 2, 4])),
     // Mistakes that look reasonable.
     ("a_then_a", Ok(&[4, 4, 5])),
     ("both_parts_take", Ok(&[3, 3, 0, 3, 0, 2, 4])),
     ("else_part_reads", Err((9, 13 + 4 * 4))),
+    ("own_write", Ok(&[1, 4, 4])),
+    ("writer_behind", Ok(&[4, 4, 4, 4])),
+    ("writer_before", Ok(&[4, 4, 4, 4])),
+    ("write_not_reached", Ok(&[4, 4, 4, 4, 0, 0, 4])),
+    ("one_writer_reads", Ok(&[4, 1, 4, 4, 4])),
+    ("one_writer_writes", Err((13, 19 + 4 * 3))),
     // A refusal of each number, and the details that are no offset of an instruction.
     ("cut_short", Err((1, 24))),
     ("version_2", Err((2, 0))),

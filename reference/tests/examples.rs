@@ -30,12 +30,12 @@ fn have_their_printouts(folder: &str, least: usize) {
 
 #[test]
 fn every_station_program_has_its_printout() {
-    have_their_printouts("../examples", 6);
+    have_their_printouts("../examples", 8);
 }
 
 #[test]
 fn every_case_has_its_printout() {
-    have_their_printouts("../examples/cases", 30);
+    have_their_printouts("../examples/cases", 38);
 }
 
 /// 0 stands for an accepted file.
