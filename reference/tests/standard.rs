@@ -91,7 +91,7 @@ fn every_kind_of_block_is_said_how_to_read_and_shown() {
 #[test]
 fn every_block_is_what_the_calls_answer() {
     let page = Page::read();
-    assert!(examples::blocks(&page, &Reimplementation) >= 5);
+    assert!(examples::blocks(&page, &Reimplementation) >= 6);
     for (file, printed) in examples::printouts(&page) {
         assert_eq!(bench(&file), printed.as_bytes());
     }
@@ -100,7 +100,7 @@ fn every_block_is_what_the_calls_answer() {
 #[test]
 fn every_table_of_answers_is_what_the_calls_answer() {
     let page = Page::read();
-    assert!(examples::judged_tables(&page, &Reimplementation) >= 60);
+    assert!(examples::judged_tables(&page, &Reimplementation) >= 68);
     assert!(examples::run_table(&page, &Reimplementation) >= 9);
 }
 
