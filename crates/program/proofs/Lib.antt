@@ -8,6 +8,7 @@
 --     Seen         what the rules see of an instruction that a `_ =>` arm takes
 --     Contents     a file's contents by index
 --     Writers      the threads that write a variable
+--     MarksLength  the table of writers, part by part
 --     Search       the search for the first offence
 --     Stack        a stack held in an array
 --     Change       what one instruction does to the open entries
@@ -34,6 +35,7 @@ pub mod Decode
 pub mod Seen
 pub mod Contents
 pub mod Writers
+pub mod MarksLength
 pub mod Search
 pub mod Stack
 pub mod Change

@@ -2,6 +2,7 @@
 --     byte-value, pair-value            a field
 --     Head, section-value               a section's head
 --     VariablesRead, variables-value    the variable section
+--     codes-in                          the codes, by the numbers that were read before them
 --     CodeRead, code-value              a code section
 use Prim.Native.Nat.{ℕ, _+_, _*_, _/_, _%_, _≤_}
 use mathlib.Core.Path.{_≡_, refl, sym, _∙_, ap}
@@ -20,8 +21,9 @@ use Rattle.program.specs.Variable
 use Rattle.program.specs.Instruction.{decodeAt}
 use Rattle.program.specs.Instruction
 use Rattle.program.specs.Nesting.{firstBroken}
-use Rattle.program.specs.Limits.{variableSize, instructionSize, variableSectionLimit, codeSectionLimit}
-use Rattle.program.specs.Layout.{instructionsAt, variableSection, codeSection, offsetFrom}
+use Rattle.program.specs.Limits.{variableSize, instructionSize, variableSectionLimit, codeSectionLimit, recordOffset}
+use Rattle.program.specs.Internal.Marks.{codesIn}
+use Rattle.program.specs.Layout.{instructionsAt, codesAt, variableSection, codeSection, offsetFrom}
 use Rattle.program.specs.declared.cursor.Cursor.{Cursor}
 use Rattle.program.specs.declared.found.Found.{Found}
 use Rattle.program.specs.declared.found.Found.the-variants.{Nowhere, At}
@@ -105,6 +107,24 @@ variables-value locks threads s c n d e =
       valid = rw (n-is, at-is) at good;
       past = sym (rw (n-is, at-is) at d-is);
     }
+
+-- the codes, by the numbers that were read before them
+pub codes-in : (s : List ℕ) (version locks threads variables : ℕ) (c₁ c₂ c₃ c₄ : Cursor) → byteField s (cursor 0) ≡ fine (version, c₁)
+    → byteField s c₁ ≡ fine (locks, c₂) → byteField s c₂ ≡ fine (threads, c₃) → variableSection locks threads s c₃ ≡ fine (variables, c₄)
+    → codesAt locks variables s threads (c₄ .at) ≡ codesIn s
+codes-in s version locks threads variables c₁ c₂ c₃ c₄ e₁ e₂ e₃ e₄ =
+    let offset : (c : Cursor) (d : ℕ) → c ≡ cursor d → c .at ≡ d = λ c d e. ap (λ (x : Cursor). x .at) e in
+    let at1 : c₁ .at ≡ 1 = offset c₁ 1 (byte-value s (cursor 0) version c₁ e₁ .2) in
+    let l = byte-value s c₁ locks c₂ e₂ in
+    let at2 : c₂ .at ≡ 2 = offset c₂ (c₁ .at + 1) (l .2) ∙ ap (λ (x : ℕ). x + 1) at1 in
+    let t = byte-value s c₂ threads c₃ e₃ in
+    let at3 : c₃ .at ≡ 3 = offset c₃ (c₂ .at + 1) (t .2) ∙ ap (λ (x : ℕ). x + 1) at2 in
+    let v = variables-value locks threads s c₃ variables c₄ e₄ in
+    let locks-is : locks ≡ byteAt s 1 = rw at1 at (l .1) in
+    let threads-is : threads ≡ byteAt s 2 = rw at2 at (t .1) in
+    let variables-is : variables ≡ pairAt s 3 / variableSize = rw at3 at (v .head .count) in
+    let at4 : c₄ .at ≡ recordOffset variables = rw at3 at (offset c₄ (c₃ .at + 2 + 6 * variables) (v .past)) in
+    rw (at4, variables-is, locks-is, threads-is)
 
 -- a code section, and the cursor past it
 pub record CodeRead (locks variables : ℕ) (s : List ℕ) (at n : ℕ) (d : Cursor) : Type 0 where

@@ -2,7 +2,7 @@
 --     has-write, write-found       a code has a WRITE of v exactly if one stands at a place of it
 --     written-by, writer-found     another thread's code has one exactly if some code other than c does
 use Prim.Native.Nat.{ℕ, zero, suc, _+_, _<_}
-use mathlib.Core.Path.{_≡_, refl, ap, _∙_}
+use mathlib.Core.Path.{_≡_, refl, ap}
 use mathlib.Core.Logic.{_≢_}
 use mathlib.Core.Bool.{Bool, true, false, not, _&&_, _||_, and-eq-true-iff, or-true}
 use mathlib.Core.List.{List, [], _∷_}

@@ -1,15 +1,18 @@
 -- `fields`: at each place, what is left of the definition. Assumes nothing.
 use Prim.Native.Nat.{_≤_}
 use mathlib.Core.Path.{_≡_, sym, ap, _∙_}
+use mathlib.Core.List.{List}
 use native.Mathlib.Omega.{arith}
 use borrow.Author.Needs.{needs}
 use borrow.Author.Tests.{eq-eqb, ne-eqb, le-leb, lt-leb}
 use Rattle.program.specs.Answer.{_>>=_}
 use Rattle.program.specs.Field.{byteField}
-use Rattle.program.specs.Layout.{fields, variableSection, codeSections}
+use Rattle.program.specs.Layout.{CodeSection, fields, variableSection, codeSections}
 use Rattle.program.specs.Limits.{lockLimit, variableLimit}
 use Rattle.program.specs.Internal.Answered.{fieldAnswer}
-use Rattle.program.proofs.ReadBack.{variables-value}
+use Rattle.program.specs.Internal.Marks.{codesIn, markedCodes}
+use Rattle.program.proofs.MarksLength.{value-marked, refused-marked}
+use Rattle.program.proofs.ReadBack.{variables-value, codes-in}
 use Rattle.program.proofs.Steps.{afterSections, afterVariables, afterThreads, afterLocks}
 use Rattle.program.proofs.layout.fields.Statement.{statement}
 use Rattle.program.proofs.layout.fields.Tie as tie
@@ -43,12 +46,30 @@ limits-small u =
     (u .before .before .before .before .before .before .before .before .before .before .if2 .left, omega (arith, read .head .few))
 
 sections-read : (u : tie.After-code-sections) → fieldAnswer (u .code-sections .result)
-    ≡ codeSections (u .before .before .before .before .before .before .before .before .before .before .before .before .before .before .before .f2 .given .0 .0) (u .before .before .before .before .f4 .given .0 .0) (u .before .before .before .before .before .before .before .before .before .before .before .before .before .before .before .before .before .before .before .before .before .before .before .before .before .args .s .now) (u .before .before .before .before .before .before .before .before .before .before .f3 .given .0 .0) (u .before .before .before .before .f4 .given .0 .1 .0)
-sections-read u = u .code-sections .ensures (u .before .before .before .before .before .before .before .before .before .before .before .before .before .before .before .f2 .given .0 .0) (u .before .before .before .before .f4 .given .0 .0) (u .before .before .limits-of .ensures)
+    ≡ codeSections (u .before .before .before .before .before .before .before .before .before .before .before .before .before .before .before .before .f2 .given .0 .0) (u .before .before .before .before .before .f4 .given .0 .0) (u .before .before .before .before .before .before .before .before .before .before .before .before .before .before .before .before .before .before .before .before .before .before .before .before .before .before .args .s .now) (u .before .before .before .before .before .before .before .before .before .before .before .f3 .given .0 .0) (u .before .before .before .before .before .f4 .given .0 .1 .0)
+sections-read u = u .code-sections .ensures (u .before .before .before .before .before .before .before .before .before .before .before .before .before .before .before .before .f2 .given .0 .0) (u .before .before .before .before .before .f4 .given .0 .0) (u .before .before .before .limits-of .ensures) .0
 
-to-end : (u : tie.After-known-told5) → fields (u .before .before .before .before .before .before .before .before .before .before .before .before .before .before .before .before .before .before .before .before .before .before .before .before .before .before .before .before .args .s .now) ≡ afterSections (u .before .before .before .before .before .before .before .before .before .before .before .before .before .before .before .before .before .before .before .before .before .before .before .before .before .before .before .before .args .s .now) (u .before .f5 .given .0 .0, u .before .f5 .given .0 .1 .0)
+-- what they left in the table
+codes-marked : (u : tie.After-f5) → u .before .before .code-sections .last .1 .1 .1 .1 .1 .0
+    ≡ markedCodes 0 (codesIn (u .before .before .before .before .before .before .before .before .before .before .before .before .before .before .before .before .before .before .before .before .before .before .before .before .before .before .before .before .args .s .now)) (u .before .before .before .before .before .before .before .before .before .before .before .before .before .before .before .before .before .before .before .before .before .before .before .before .before .before .before .before .args .writers .now)
+codes-marked u =
+    let s = u .before .before .before .before .before .before .before .before .before .before .before .before .before .before .before .before .before .before .before .before .before .before .before .before .before .before .before .before .args .s .now in
+    let variables = u .before .before .before .before .before .before .before in
+    let threads = u .before .before .before .before .before .before .before .before .before .before .before .before .before in
+    let locks = u .before .before .before .before .before .before .before .before .before .before .before .before .before .before .before .before .before .before in
+    let version = u .before .before .before .before .before .before .before .before .before .before .before .before .before .before .before .before .before .before .before .before .before .before .before in
+    let told = value-marked (u .before .before .code-sections .result) (u .f5 .given .0 .0) (u .f5 .given .0 .1 .0) _ _ (u .f5 .given .1)
+    (u .before .before .code-sections .ensures (locks .f2 .given .0 .0) (variables .f4 .given .0 .0) (u .before .before .before .before .before .limits-of .ensures) .1) in
+    let codes = codes-in s (version .f .given .0 .0) (locks .f2 .given .0 .0) (threads .f3 .given .0 .0) (variables .f4 .given .0 .0) (version .f .given .0 .1 .0) (locks .f2 .given .0 .1 .0) (threads .f3 .given .0 .1 .0) (variables .f4 .given .0 .1 .0)
+    (sym (version .before .before .byte-field .ensures) ∙ ap fieldAnswer (version .f .given .1))
+    (sym (locks .before .before .byte-field2 .ensures) ∙ ap fieldAnswer (locks .f2 .given .1))
+    (sym (threads .before .before .byte-field3 .ensures) ∙ ap fieldAnswer (threads .f3 .given .1))
+    (sym (variables .before .before .variable-section .ensures) ∙ ap fieldAnswer (variables .f4 .given .1)) in
+    told ∙ ap (λ (xs : List CodeSection). markedCodes 0 xs (u .before .before .before .before .before .before .before .before .before .before .before .before .before .before .before .before .before .before .before .before .before .before .before .before .before .before .before .before .args .writers .now)) codes
+
+to-end : (u : tie.After-known-told5) → fields (u .before .before .before .before .before .before .before .before .before .before .before .before .before .before .before .before .before .before .before .before .before .before .before .before .before .before .before .before .before .args .s .now) ≡ afterSections (u .before .before .before .before .before .before .before .before .before .before .before .before .before .before .before .before .before .before .before .before .before .before .before .before .before .before .before .before .before .args .s .now) (u .before .f5 .given .0 .0, u .before .f5 .given .0 .1 .0)
 to-end u =
-    to-sections (u .before .before .before .before .before .before) ∙ rw (← sections-read (u .before .before .before), u .before .f5 .given .1)
+    to-sections (u .before .before .before .before .before .before .before) ∙ rw (← sections-read (u .before .before .before), u .before .f5 .given .1)
 
 -- `let f = byte_field(s, Cursor { at: 0 })`
 byte-field-requires : tie.Need-byte-field-requires
@@ -64,12 +85,12 @@ enum-told c = search needs
 
 returns : tie.Need-returns
 unfolding fields
-returns c = rw (← c .before .before .byte-field .ensures, c .enum-told .given .1)
+returns c = (rw (← c .before .before .byte-field .ensures, c .enum-told .given .1), refused-marked (c .before .before .byte-field .result) (c .enum-told .given .0 .0) _ _ (c .enum-told .given .1))
 
 -- `return Field::Refused(Refusal::Version(0))`
 returns-2 : tie.Need-returns-2
 unfolding fields
-returns-2 c = rw (← c .before .before .before .before .byte-field .ensures, c .before .before .f .given .1, ne-eqb _ _ (c .if1 .taken))
+returns-2 c = (rw (← c .before .before .before .before .byte-field .ensures, c .before .before .f .given .1, ne-eqb _ _ (c .if1 .taken)), tt)
 
 -- `let f = byte_field(s, c1)`
 byte-field-requires-2 : tie.Need-byte-field-requires-2
@@ -84,11 +105,11 @@ enum-told-2 : tie.Need-enum-told-2
 enum-told-2 c = search needs
 
 returns-3 : tie.Need-returns-3
-returns-3 c = rw (to-locks (c .before .before .before), ← c .before .before .byte-field2 .ensures, c .enum-told2 .given .1)
+returns-3 c = (rw (to-locks (c .before .before .before), ← c .before .before .byte-field2 .ensures, c .enum-told2 .given .1), refused-marked (c .before .before .byte-field2 .result) (c .enum-told2 .given .0 .0) _ _ (c .enum-told2 .given .1))
 
 -- `return Field::Refused(Refusal::Count(1))`
 returns-4 : tie.Need-returns-4
-returns-4 c = rw (to-locks (c .before .before .before .before .before), ← c .before .before .before .before .byte-field2 .ensures, c .before .before .f2 .given .1, lt-leb _ _ (c .if2 .taken))
+returns-4 c = (rw (to-locks (c .before .before .before .before .before), ← c .before .before .before .before .byte-field2 .ensures, c .before .before .f2 .given .1, lt-leb _ _ (c .if2 .taken)), tt)
 
 -- `let f = byte_field(s, c2)`
 byte-field-requires-3 : tie.Need-byte-field-requires-3
@@ -103,22 +124,24 @@ enum-told-3 : tie.Need-enum-told-3
 enum-told-3 c = search needs
 
 returns-5 : tie.Need-returns-5
-returns-5 c = rw (to-threads (c .before .before .before), ← c .before .before .byte-field3 .ensures, c .enum-told3 .given .1)
+returns-5 c = (rw (to-threads (c .before .before .before), ← c .before .before .byte-field3 .ensures, c .enum-told3 .given .1), refused-marked (c .before .before .byte-field3 .result) (c .enum-told3 .given .0 .0) _ _ (c .enum-told3 .given .1))
 
 -- `return Field::Refused(Refusal::Count(2))`
 returns-6 : tie.Need-returns-6
-returns-6 c = rw (to-threads (c .before .before .before .before .before), ← c .before .before .before .before .byte-field3 .ensures, c .before .before .f3 .given .1, lt-leb _ _ (c .if3 .taken))
+returns-6 c = (rw (to-threads (c .before .before .before .before .before), ← c .before .before .before .before .byte-field3 .ensures, c .before .before .f3 .given .1, lt-leb _ _ (c .if3 .taken)), tt)
 
 -- `return Field::Refused(Refusal::Count(2))`
 returns-7 : tie.Need-returns-7
-returns-7 c =
-    rw (
-      to-threads (c .before .before .before .before .before .before),
-      ← c .before .before .before .before .before .byte-field3 .ensures,
-      c .before .before .before .f3 .given .1,
-      le-leb _ _ (c .before .if3 .left),
-      lt-leb _ _ (c .if4 .taken),
-    )
+returns-7 c = (
+  rw (
+    to-threads (c .before .before .before .before .before .before),
+    ← c .before .before .before .before .before .byte-field3 .ensures,
+    c .before .before .before .f3 .given .1,
+    le-leb _ _ (c .before .if3 .left),
+    lt-leb _ _ (c .if4 .taken),
+  ),
+  tt,
+)
 
 -- `let f = variable_section(s, c3, locks, threads)`
 variable-section-requires : tie.Need-variable-section-requires
@@ -133,18 +156,20 @@ enum-told-4 : tie.Need-enum-told-4
 enum-told-4 c = search needs
 
 returns-8 : tie.Need-returns-8
-returns-8 c = rw (to-variables (c .before .before .before), ← c .before .before .variable-section .ensures, c .enum-told4 .given .1)
+returns-8 c = (rw (to-variables (c .before .before .before), ← c .before .before .variable-section .ensures, c .enum-told4 .given .1), refused-marked (c .before .before .variable-section .result) (c .enum-told4 .given .0 .0) _ _ (c .enum-told4 .given .1))
 
 -- `let limits = limits_of(locks, variables)`
 limits-of-requires : tie.Need-limits-of-requires
 limits-of-requires c κs = limits-small c
 
--- `let f = code_sections(rows, &limits, s, c4, threads)`
+-- `let f = code_sections(rows, &limits, s, c4, threads, &mut *writers)`
 slice-aggregate-code-sections : tie.Need-slice-aggregate-code-sections
 slice-aggregate-code-sections c = search needs
 
 code-sections-requires : tie.Need-code-sections-requires
-code-sections-requires c κs = (c .before .before .before .before .before .before .before .before .before .before .before .before .before .before .before .before .before .before .before .before .before .before .before .before .pre, (_, _, c .before .limits-of .ensures), c .before .before .before .before .before .before .if4 .left)
+code-sections-requires c κs =
+    let pre = c .before .before .before .before .before .before .before .before .before .before .before .before .before .before .before .before .before .before .before .before .before .before .before .before .before .pre in
+    (pre .0, (_, _, limits-small (c .before .before .before) .1, c .before .before .limits-of .ensures), c .before .before .before .before .before .before .before .if4 .left, pre .1)
 
 -- `let Field::Value(instructions, c5) = f else`
 enum-known-f-5 : tie.Need-enum-known-f-5
@@ -155,15 +180,15 @@ enum-told-5 : tie.Need-enum-told-5
 enum-told-5 c = search needs
 
 returns-9 : tie.Need-returns-9
-returns-9 c = rw (to-sections (c .before .before .before .before .before), ← sections-read (c .before .before), c .enum-told5 .given .1)
+returns-9 c = (rw (to-sections (c .before .before .before .before .before .before), ← sections-read (c .before .before), c .enum-told5 .given .1), refused-marked (c .before .before .code-sections .result) (c .enum-told5 .given .0 .0) _ _ (c .enum-told5 .given .1))
 
 -- `return Field::Refused(Refusal::LeftOver(end))`
 returns-10 : tie.Need-returns-10
-returns-10 c = rw (to-end (c .before), ne-eqb _ _ (c .if5 .taken))
+returns-10 c = (rw (to-end (c .before), ne-eqb _ _ (c .if5 .taken)), tt)
 
 -- `Field::Value(instructions, c5)`
 returns-11 : tie.Need-returns-11
-returns-11 c = rw (to-end (c .before), eq-eqb _ _ (c .if5 .left))
+returns-11 c = (rw (to-end (c .before), eq-eqb _ _ (c .if5 .left)), codes-marked (c .before .before))
 
 pub fields-spec : {M : Type 1} → statement M
 fields-spec =
