@@ -4,6 +4,7 @@
 use crate::atomicity::Atomicity;
 use crate::lock_set::LockSet;
 use crate::reader::{Kind, Variable, MAX_VARIABLES};
+use crate::writers::Writers;
 
 /// When a thread may access a variable, and the access's atomicity.
 #[derive(Clone, Copy)]
@@ -20,47 +21,54 @@ const FREE: Rule = Rule {
     atomicity: Atomicity::B,
 };
 
-impl Rule {
-    #[inline]
-    fn new(kind: Kind, thread: usize, writes: bool) -> Rule {
-        match kind {
-            Kind::Guarded { lock } => Rule {
-                needs: LockSet::empty().with(lock),
-                ..FREE
-            },
-            Kind::Own { thread: owner } => Rule {
-                allowed: usize::from(owner) == thread,
-                ..FREE
-            },
-            Kind::Fixed => Rule {
-                allowed: !writes,
-                ..FREE
-            },
-            Kind::Open => Rule {
-                atomicity: Atomicity::A,
-                ..FREE
-            },
-        }
-    }
-}
-
-/// A thread's rules for all variables, worked out once before its code is judged.
+/// One thread's rules for all variables, worked out before its code is judged.
 pub(crate) struct AccessRules {
     reads: [Rule; MAX_VARIABLES],
     writes: [Rule; MAX_VARIABLES],
 }
 
 impl AccessRules {
-    pub fn new(variables: &[Variable], thread: usize) -> AccessRules {
+    /// What is the same for every thread; the rest is for `turn_to`.
+    pub fn new(variables: &[Variable]) -> AccessRules {
         let mut rules = AccessRules {
             reads: [FREE; MAX_VARIABLES],
             writes: [FREE; MAX_VARIABLES],
         };
         for (number, variable) in variables.iter().enumerate() {
-            rules.reads[number] = Rule::new(variable.kind, thread, false);
-            rules.writes[number] = Rule::new(variable.kind, thread, true);
+            match variable.kind {
+                Kind::Guarded { lock } => {
+                    let needs = LockSet::empty().with(lock);
+                    rules.reads[number].needs = needs;
+                    rules.writes[number].needs = needs;
+                }
+                Kind::Own { .. } => {}
+                Kind::Fixed => rules.writes[number].allowed = false,
+                Kind::Open => rules.writes[number].atomicity = Atomicity::A,
+            }
         }
         rules
+    }
+
+    /// Sets what differs from thread to thread: who owns a variable, and who else writes it.
+    pub fn turn_to(&mut self, thread: usize, variables: &[Variable], writers: &Writers) {
+        let written_by_others = writers.written_by_others(thread);
+        for (number, variable) in variables.iter().enumerate() {
+            match variable.kind {
+                Kind::Own { thread: owner } => {
+                    let allowed = usize::from(owner) == thread;
+                    self.reads[number].allowed = allowed;
+                    self.writes[number].allowed = allowed;
+                }
+                Kind::Open => {
+                    self.reads[number].atomicity = if written_by_others.contains(number) {
+                        Atomicity::A
+                    } else {
+                        Atomicity::B
+                    };
+                }
+                Kind::Guarded { .. } | Kind::Fixed => {}
+            }
+        }
     }
 
     /// The rule for READ. A variable lies below the limit: the remainder only spares a test.

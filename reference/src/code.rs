@@ -14,7 +14,7 @@ pub(crate) struct Limits {
 
 /// What is done with a thread's instructions while its code is read. Each is shown at its place,
 /// once it is known to be good and well nested; closers come with their opener's place. What has
-/// to be known of the whole file first would be a visitor and a pass of its own.
+/// to be known of the whole file first is found before, as the module `writers` does.
 pub(crate) trait Visitor {
     /// SET, COPY, ADD, SUB, LESS.
     fn calculation(&mut self, place: usize);

@@ -3,8 +3,9 @@
 use crate::access::AccessRules;
 use crate::code::Code;
 use crate::judging::Judging;
-use crate::reader::{Program, MAX_INSTRUCTIONS, MAX_THREADS};
+use crate::reader::{Cursor, Program, MAX_INSTRUCTIONS, MAX_THREADS};
 use crate::refusal::{check_buffer, Refusal};
+use crate::writers::Writers;
 
 /// The longest report: a byte for each instruction and one for each thread's whole code.
 pub const MAX_REPORT: usize = MAX_THREADS * (MAX_INSTRUCTIONS + 1);
@@ -51,9 +52,14 @@ impl Report {
     /// until the whole file is read, since all of the sender's come before it. (Filled in place:
     /// handing a report back by value would copy it.)
     pub fn fill<'f>(&mut self, file: &'f [u8]) -> Result<Program<'f>, Refusal> {
+        let mut cursor = Cursor::new(file);
+        let mut program = Program::without_code(&mut cursor)?;
+        let writers = Writers::find(&program, cursor);
+        let mut rules = AccessRules::new(program.variables());
         let mut first_offence = None;
-        let program = Program::read_with(file, |program, thread, code| {
-            let offence = self.add_thread(program, thread, code)?;
+        program.read_code(cursor, |program, thread, code| {
+            rules.turn_to(thread, program.variables(), &writers);
+            let offence = self.add_thread(program, &rules, code)?;
             first_offence = first_offence.or(offence);
             Ok(())
         })?;
@@ -69,13 +75,12 @@ impl Report {
     fn add_thread(
         &mut self,
         program: &Program,
-        thread: usize,
+        rules: &AccessRules,
         code: Code,
     ) -> Result<Option<Refusal>, Refusal> {
-        let rules = AccessRules::new(program.variables(), thread);
         let rest = &mut self.bytes[self.length..];
         let bytes = rest.first_chunk_mut().expect("room for the longest code");
-        let judging = code.read(program.limits(), Judging::new(&rules, bytes))?;
+        let judging = code.read(program.limits(), Judging::new(rules, bytes))?;
         let end = code.words.len();
         let (whole, first_offence) = judging.finish(end);
         self.bytes[self.length + end] = whole.report_byte();

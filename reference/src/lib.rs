@@ -14,6 +14,7 @@
 //! | [`reader`] | "The file": header, sections, records | 1 to 6 |
 //! | [`atomicity`] | "Atomicities": the algebra | – |
 //! | [`lock_set`] | "Lock discipline": the set itself | – |
+//! | `writers` | "Rules": which threads write an open variable | – |
 //! | `access` | "Lock discipline": the kinds of variables | – |
 //! | `judging` | "Lock discipline", "Atomicities": the rules | 9 to 13 |
 //! | [`judge`](mod@judge) | "Atomicities": the report | 16 |
@@ -24,8 +25,9 @@
 //! | [`standard`] | – (the page itself, for tests) | – |
 //!
 //! It is also the yardstick for the library's speed, so it is written to be fast as far as it
-//! stays plain and safe: judge reads and judges each thread's code in the same pass, nothing is
-//! decoded or copied first, and run steps on the file's own bytes.
+//! stays plain and safe: judge reads and judges each thread's code in the same pass, after a quick
+//! search for WRITEs where there are open variables; nothing is decoded or copied first, and run
+//! steps on the file's own bytes.
 //!
 //! After a refusal every lent buffer holds what it held before; after an answer the bytes past
 //! it are kept.
@@ -48,6 +50,7 @@ pub mod reader;
 pub mod refusal;
 pub mod standard;
 mod text;
+mod writers;
 
 pub use judge::{judge, report_length};
 pub use machine::{run, state_length, Counts};

@@ -44,29 +44,44 @@ pub struct Program<'f> {
 impl<'f> Program<'f> {
     /// Reads a sound file, or refuses it with its first offence.
     pub fn read(file: &'f [u8]) -> Result<Program<'f>, Refusal> {
-        Program::read_with(file, |program, _, code| {
+        let mut cursor = Cursor::new(file);
+        let mut program = Program::without_code(&mut cursor)?;
+        program.read_code(cursor, |program, _, code| {
             code.read(program.limits(), OnlyReading)?;
             Ok(())
-        })
+        })?;
+        Ok(program)
     }
 
-    /// Reads a file section by section; `read_code` reads each thread's code, with a visitor of
-    /// its own.
+    /// Reads a file's header and variables.
     #[inline]
-    pub(crate) fn read_with(
-        file: &'f [u8],
-        mut read_code: impl FnMut(&Program, usize, Code) -> Result<(), Refusal>,
-    ) -> Result<Program<'f>, Refusal> {
-        let mut cursor = Cursor { file, at: 0 };
-        let mut program = Program::with_header(&mut cursor)?;
-        program.read_variables(&mut cursor)?;
-        for thread in 0..program.thread_count {
-            let code = cursor.code()?;
-            read_code(&program, thread, code)?;
-            program.code[thread] = code;
-        }
-        cursor.finish()?;
+    pub(crate) fn without_code(cursor: &mut Cursor<'f>) -> Result<Program<'f>, Refusal> {
+        let mut program = Program::with_header(cursor)?;
+        program.read_variables(cursor)?;
         Ok(program)
+    }
+
+    /// The code sections from the cursor on, up to the first whose length or bytes are refused:
+    /// reading comes to that refusal or to an earlier one.
+    #[inline]
+    pub(crate) fn code_ahead(&self, mut cursor: Cursor<'f>) -> impl Iterator<Item = Code<'f>> {
+        (0..self.thread_count).map_while(move |_| cursor.code().ok())
+    }
+
+    /// Reads the code section by section to the file's end; `read_code` reads each thread's, with a
+    /// visitor of its own.
+    #[inline]
+    pub(crate) fn read_code(
+        &mut self,
+        mut cursor: Cursor<'f>,
+        mut read_code: impl FnMut(&Program, usize, Code) -> Result<(), Refusal>,
+    ) -> Result<(), Refusal> {
+        for thread in 0..self.thread_count {
+            let code = cursor.code()?;
+            read_code(self, thread, code)?;
+            self.code[thread] = code;
+        }
+        cursor.finish()
     }
 
     fn with_header(cursor: &mut Cursor<'f>) -> Result<Program<'f>, Refusal> {
@@ -154,12 +169,17 @@ impl<'f> Program<'f> {
 }
 
 /// How far the file is read.
-struct Cursor<'f> {
+#[derive(Clone, Copy)]
+pub(crate) struct Cursor<'f> {
     file: &'f [u8],
     at: usize,
 }
 
 impl<'f> Cursor<'f> {
+    pub fn new(file: &'f [u8]) -> Cursor<'f> {
+        Cursor { file, at: 0 }
+    }
+
     /// The next `count` bytes, or refusal 1 with the file's length.
     fn take(&mut self, count: usize) -> Result<&'f [u8], Refusal> {
         let rest = &self.file[self.at..];

@@ -1,22 +1,58 @@
 //! The vectors: cases answered by an independent implementation (see vectors/README.md).
 
+#[path = "common/changed.rs"]
+mod changed;
 mod common;
 
-use common::{hex, judge_in, line_in, run_in};
-use hogunlas_reference::{bench, Counts, Refusal};
+use std::fmt::Debug;
+use std::fs;
+use std::path::Path;
 
-/// Splits the lines of a vector file into fields, checks each by `check`, and compares the number
-/// of cases with the number of lines.
-fn each_case(text: &str, name: &str, check: impl Fn(&[&str], &str)) {
+use common::{hex, judge_in, line_in, run_in};
+use hogunlas_reference::{bench, state_length, Counts, Refusal};
+
+/// The folders of `vectors/`, by the standard's version.
+const VERSION_1_0: &str = "";
+const VERSION_1_1: &str = "1.1";
+
+/// Splits the lines of a vector file into fields, checks each with its line number, and compares
+/// the number of cases with the number of lines.
+fn each_case(folder: &str, kind: &str, mut check: impl FnMut(&[&str], usize)) {
+    let vectors = Path::new(env!("CARGO_MANIFEST_DIR")).join("vectors");
+    let path = vectors.join(folder).join(kind).with_extension("txt");
+    let text = fs::read_to_string(path).expect("a file of vectors");
     let mut cases = 0;
     for (index, line) in text.lines().enumerate() {
         let fields: Vec<&str> = line.split(' ').collect();
-        assert_eq!(fields[0], name, "line {} of {name}.txt", index + 1);
-        check(&fields[1..], &format!("line {} of {name}.txt", index + 1));
+        assert_eq!(fields[0], kind, "line {}", index + 1);
+        check(&fields[1..], index + 1);
         cases += 1;
     }
     let newlines = text.bytes().filter(|&byte| byte == b'\n').count();
     assert!(cases > 0 && cases == newlines, "{cases} of {newlines}");
+}
+
+/// Every case of version 1.1 is answered as recorded; of version 1.0, every case but the named
+/// ones, which are answered otherwise. `answers` makes of a case what is answered and what is
+/// recorded.
+fn answers_its_vectors<T: Debug + PartialEq>(kind: &str, answers: impl Fn(&[&str]) -> (T, T)) {
+    each_case(VERSION_1_1, kind, |case, line| {
+        let (answered, recorded) = answers(case);
+        assert_eq!(answered, recorded, "line {line} of 1.1/{kind}.txt");
+    });
+    let mut changed = Vec::new();
+    each_case(VERSION_1_0, kind, |case, line| {
+        let (answered, recorded) = answers(case);
+        if answered != recorded {
+            let can_change = changed::reads_what_no_other_thread_writes(&hex(case[0]));
+            assert!(
+                can_change,
+                "line {line} of {kind}.txt: {answered:?}, {recorded:?}"
+            );
+            changed.push(line);
+        }
+    });
+    assert_eq!(changed, changed::lines(kind), "lines of {kind}.txt");
 }
 
 fn number(field: &str) -> u64 {
@@ -43,17 +79,17 @@ fn one_text(word: &'static str) -> impl Fn(&[&str]) -> Vec<u8> {
 
 #[test]
 fn judge_answers_its_vectors() {
-    each_case(include_str!("../vectors/judge.txt"), "judge", |case, at| {
+    answers_its_vectors("judge", |case| {
         let report = judge_in(number(case[1]) as usize, &hex(case[0]));
-        assert_eq!(report, expected(&case[2..], one_text("report")), "{at}");
+        (report, expected(&case[2..], one_text("report")))
     });
 }
 
 #[test]
 fn line_answers_its_vectors() {
-    each_case(include_str!("../vectors/line.txt"), "line", |case, at| {
+    answers_its_vectors("line", |case| {
         let text = line_in(number(case[2]) as usize, &hex(case[0]), number(case[1]));
-        assert_eq!(text, expected(&case[3..], one_text("text")), "{at}");
+        (text, expected(&case[3..], one_text("text")))
     });
 }
 
@@ -70,18 +106,16 @@ fn run_answers_its_vectors() {
         ),
         _ => panic!("not an answer: {fields:?}"),
     };
-    each_case(include_str!("../vectors/run.txt"), "run", |case, at| {
+    answers_its_vectors("run", |case| {
         let expected = expected(&case[3..], answer);
-        let state = expected.as_ref().map_or(0, |(_, state)| state.len());
         let (file, list) = (hex(case[0]), hex(case[1]));
-        let answer = run_in(number(case[2]) as usize, &file, &list, state);
-        assert_eq!(answer, expected, "{at}");
+        let state = state_length(&file).unwrap_or(0);
+        let answered = run_in(number(case[2]) as usize, &file, &list, state);
+        (answered, expected)
     });
 }
 
 #[test]
 fn bench_answers_its_vectors() {
-    each_case(include_str!("../vectors/bench.txt"), "bench", |case, at| {
-        assert_eq!(bench(&hex(case[0])), hex(case[1]), "{at}");
-    });
+    answers_its_vectors("bench", |case| (bench(&hex(case[0])), hex(case[1])));
 }
