@@ -96,10 +96,10 @@ fn prints_the_stored(folder: &str) {
 
 #[test]
 fn bench_prints_its_vectors() {
-    let vectors = include_str!("../../reference/vectors/bench.txt");
-    vector_file::each_case(vectors, |case| {
-        let name = format!("line {} of bench.txt", case.line);
-        assert_prints(&case.bytes(1), &case.bytes(2), &name);
+    vector_file::answers_its_vectors("bench", |case| {
+        let printed = printed(&case.bytes(1));
+        let differs = printed != case.bytes(2);
+        differs.then(|| String::from_utf8_lossy(&printed).into_owned())
     });
 }
 

@@ -63,16 +63,25 @@ impl IntoRefusal for hogunlas_reference::Refusal {
 impl<T: Debug + PartialEq> Outcome<T> {
     /// Fails, and says where, unless answer and memory are as wanted.
     pub fn assert_is(&self, wanted: &Outcome<T>, case: Arguments) {
-        let (answer, right) = (&self.answer, &wanted.answer);
-        assert_eq!(answer, right, "{case}: the answer is on the left");
-        assert_eq!(self.memory.len(), wanted.memory.len(), "{case}: not tested");
-        if self.memory != wanted.memory {
-            let mut bytes = self.memory.iter().zip(&wanted.memory);
-            let at = bytes.position(|(byte, right)| byte != right).unwrap();
-            let (byte, right) = (self.memory[at], wanted.memory[at]);
-            let index = at as i64 - self.start as i64;
-            panic!("{case}: {answer:?}, but byte {index} of the buffer is {byte} and not {right}");
+        if let Some(difference) = self.difference(wanted) {
+            panic!("{case}: {difference}");
         }
+    }
+
+    /// What is not as wanted in answer or memory.
+    pub fn difference(&self, wanted: &Outcome<T>) -> Option<String> {
+        let (answer, right) = (&self.answer, &wanted.answer);
+        if answer != right {
+            return Some(format!("{answer:?} and not {right:?}"));
+        }
+        assert_eq!(self.memory.len(), wanted.memory.len(), "not tested");
+        let mut bytes = self.memory.iter().zip(&wanted.memory);
+        let at = bytes.position(|(byte, right)| byte != right)?;
+        let (byte, right) = (self.memory[at], wanted.memory[at]);
+        let index = at as i64 - self.start as i64;
+        Some(format!(
+            "{answer:?}, but byte {index} of the buffer is {byte} and not {right}"
+        ))
     }
 }
 

@@ -4,23 +4,22 @@
 use hogunlas::Refusal;
 
 use crate::support::lend;
-use crate::vector_file::{bytes, each_case, number, Case};
+use crate::vector_file::{answers_its_vectors, bytes, number, Case};
 
-/// Lends a buffer to the call, and another to the expected answer's bytes: the two must look alike.
-fn check<T: std::fmt::Debug + PartialEq + Copy>(
+/// Lends a buffer to the call, and another to the expected answer's bytes: what is not alike.
+fn difference<T: std::fmt::Debug + PartialEq + Copy>(
     case: &Case,
     length: u64,
     expected: Result<(T, Vec<u8>), Refusal>,
     call: impl FnOnce(&mut [u8]) -> Result<T, Refusal>,
-) {
+) -> Option<String> {
     let (salt, length) = (case.line as u64, length as usize);
     let wanted = lend(salt, length, |buffer| {
         let (answer, bytes) = expected?;
         buffer[..bytes.len()].copy_from_slice(&bytes);
         Ok::<T, Refusal>(answer)
     });
-    let name = case.fields[0];
-    lend(salt, length, call).assert_is(&wanted, format_args!("line {} of {name}.txt", case.line));
+    lend(salt, length, call).difference(&wanted)
 }
 
 #[test]
@@ -29,16 +28,13 @@ fn judge_answers_its_vectors() {
         ["report", report] => (bytes(report).len(), bytes(report)),
         _ => panic!("not an answer: {fields:?}"),
     };
-    each_case(
-        include_str!("../../../reference/vectors/judge.txt"),
-        |case| {
-            let file = case.bytes(1);
-            let expected = case.expected(3, answer);
-            check(case, case.number(2), expected, |report| {
-                hogunlas::judge(&file, report)
-            });
-        },
-    );
+    answers_its_vectors("judge", |case| {
+        let file = case.bytes(1);
+        let expected = case.expected(3, answer);
+        difference(case, case.number(2), expected, |report| {
+            hogunlas::judge(&file, report)
+        })
+    });
 }
 
 #[test]
@@ -54,12 +50,12 @@ fn run_answers_its_vectors() {
         }
         _ => panic!("not an answer: {fields:?}"),
     };
-    each_case(include_str!("../../../reference/vectors/run.txt"), |case| {
+    answers_its_vectors("run", |case| {
         let (file, list) = (case.bytes(1), case.bytes(2));
         let expected = case.expected(4, answer);
-        check(case, case.number(3), expected, |state| {
+        difference(case, case.number(3), expected, |state| {
             hogunlas::run(&file, &list, state)
-        });
+        })
     });
 }
 
@@ -69,14 +65,11 @@ fn line_answers_its_vectors() {
         ["text", text] => (bytes(text).len(), bytes(text)),
         _ => panic!("not an answer: {fields:?}"),
     };
-    each_case(
-        include_str!("../../../reference/vectors/line.txt"),
-        |case| {
-            let (file, i) = (case.bytes(1), case.number(2));
-            let expected = case.expected(4, answer);
-            check(case, case.number(3), expected, |text| {
-                hogunlas::line(&file, i, text)
-            });
-        },
-    );
+    answers_its_vectors("line", |case| {
+        let (file, i) = (case.bytes(1), case.number(2));
+        let expected = case.expected(4, answer);
+        difference(case, case.number(3), expected, |text| {
+            hogunlas::line(&file, i, text)
+        })
+    });
 }

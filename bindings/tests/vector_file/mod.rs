@@ -1,7 +1,17 @@
 //! Files of vectors: a case to a line, fields between blanks (see reference/vectors/README.md).
 #![allow(dead_code)] // no test program uses all of it
 
+use std::fs;
+use std::path::Path;
+
 use hogunlas::Refusal;
+
+#[path = "../../../reference/tests/common/changed.rs"]
+mod changed;
+
+/// The folders of `reference/vectors/`, by the standard's version.
+const VERSION_1_0: &str = "";
+const VERSION_1_1: &str = "1.1";
 
 /// One line of a vector file, split into fields.
 pub struct Case<'t> {
@@ -53,7 +63,10 @@ pub fn bytes(field: &str) -> Vec<u8> {
 }
 
 /// Checks each line of a vector file, and that there are as many as newlines.
-pub fn each_case(text: &str, check: impl Fn(&Case)) {
+fn each_case(folder: &str, kind: &str, mut check: impl FnMut(&Case)) {
+    let vectors = Path::new(env!("CARGO_MANIFEST_DIR")).join("../reference/vectors");
+    let path = vectors.join(folder).join(kind).with_extension("txt");
+    let text = fs::read_to_string(path).expect("a file of vectors");
     let mut cases = 0;
     for (index, line) in text.lines().enumerate() {
         check(&Case {
@@ -64,4 +77,22 @@ pub fn each_case(text: &str, check: impl Fn(&Case)) {
     }
     assert!(cases > 0);
     assert_eq!(cases, text.matches('\n').count());
+}
+
+/// Every case of version 1.1 is answered as recorded; of version 1.0, every case but the named
+/// ones, which are answered otherwise. `difference` says what is not as a case records it.
+pub fn answers_its_vectors(kind: &str, difference: impl Fn(&Case) -> Option<String>) {
+    each_case(VERSION_1_1, kind, |case| {
+        let at = format!("line {} of 1.1/{kind}.txt", case.line);
+        assert_eq!(difference(case), None, "{at}");
+    });
+    let mut changed = Vec::new();
+    each_case(VERSION_1_0, kind, |case| {
+        if let Some(difference) = difference(case) {
+            let can_change = changed::reads_what_no_other_thread_writes(&case.bytes(1));
+            assert!(can_change, "line {} of {kind}.txt: {difference}", case.line);
+            changed.push(case.line);
+        }
+    });
+    assert_eq!(changed, changed::lines(kind), "lines of {kind}.txt");
 }
