@@ -3,6 +3,7 @@
 //! Every file comes from a [`Rng`], so a seed names a file. The kinds: sound files, accepted
 //! files, nearly accepted ones, damaged ones, and files at the limits.
 
+mod channel;
 mod damage;
 mod limits;
 mod lists;

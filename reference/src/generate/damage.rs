@@ -16,14 +16,15 @@ pub fn nearly_accepted_file(rng: &mut Rng) -> Vec<u8> {
     source.encode()
 }
 
-/// One small change to a program: an instruction, a lock, a variable's kind, a distance.
+/// One small change to a program: an instruction, a lock, a variable's kind or writers, a distance.
 fn change_source(rng: &mut Rng, source: &mut Source) {
-    match rng.below(12) {
+    match rng.below(15) {
         0..=2 => change_lock_instruction(rng, source),
         3..=4 => replace_instruction(rng, source),
         5 => remove_instruction(rng, source),
         6..=7 => swap_instructions(rng, source),
         8..=9 => change_variable(rng, source),
+        10..=12 => add_writer(rng, source),
         _ => change_distance(rng, source),
     }
 }
@@ -116,6 +117,32 @@ fn change_variable(rng: &mut Rng, source: &mut Source) {
         2 => record[0] = rng.below(6) as u8,
         _ => record[1] = rng.below(usize::from(source.locks) + 2) as u8,
     }
+}
+
+/// A WRITE of an open variable that is read somewhere, at the end of another thread's code, reached
+/// or not.
+fn add_writer(rng: &mut Rng, source: &mut Source) {
+    let is_open = |variable: u8| source.variables[usize::from(variable)][0] == 3;
+    let reads = |i| matches!(i, Read { variable, .. } if is_open(variable));
+    let Some((reader, place)) = some_place(rng, source, reads) else {
+        return;
+    };
+    let Read { variable, .. } = source.code[reader][place] else {
+        return;
+    };
+    let threads = 0..source.code.len();
+    let others: Vec<usize> = threads.filter(|&thread| thread != reader).collect();
+    let Some(thread) = rng.pick(&others) else {
+        return;
+    };
+    let write = Write { from: 0, variable };
+    source.code[thread].extend(if rng.chance(50) {
+        vec![write]
+    } else {
+        let (to, test, distance) = (1, 1, 2);
+        let set = Set { to, number: 0 };
+        vec![set, If { test, distance }, write, Else { distance: 1 }, End]
+    });
 }
 
 /// A distance one too large, one too small, or 0.

@@ -1,5 +1,6 @@
 //! Whole programs: header, variables, and code written thread by thread.
 
+use super::channel::Channel;
 use super::rng::Rng;
 use super::writer::{Scope, Writer};
 use crate::instruction::Instruction;
@@ -21,6 +22,8 @@ pub(super) enum Style {
 pub(super) struct Source {
     pub locks: u8,
     pub variables: Vec<[u8; 6]>,
+    /// Who writes each variable, if it is open.
+    pub channels: Vec<Channel>,
     pub code: Vec<Vec<Instruction>>,
 }
 
@@ -74,6 +77,9 @@ impl Source {
             variables: (0..variables)
                 .map(|_| variable(rng, locks, threads))
                 .collect(),
+            channels: (0..variables)
+                .map(|_| Channel::random(rng, threads))
+                .collect(),
             code: Vec::new(),
         }
     }
@@ -105,7 +111,7 @@ fn push_section(file: &mut Vec<u8>, bytes: &[u8]) {
 
 /// A good variable record: guarded ones if there is a lock, and some of each other kind.
 fn variable(rng: &mut Rng, locks: usize, threads: usize) -> [u8; 6] {
-    let (kind, g) = match rng.below(10) {
+    let (kind, g) = match rng.below(12) {
         0..=4 if locks > 0 => (0, rng.below(locks)),
         0..=5 => (1, rng.below(threads)),
         6 => (2, 0),

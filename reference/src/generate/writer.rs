@@ -4,6 +4,7 @@
 //! has come, so that no block becomes T: right movers first, then at most one A, then left
 //! movers.
 
+use super::channel::Channel;
 use super::program::{Source, Style};
 use super::rng::Rng;
 use crate::instruction::Instruction::{self, *};
@@ -11,12 +12,19 @@ use crate::instruction::REGISTERS;
 use crate::lock_set::LockSet;
 use crate::nesting::MAX_OPEN;
 
+/// A variable, as far as a writer has to know it.
+#[derive(Clone, Copy)]
+struct Variable {
+    kind: u8,
+    g: u8,
+    channel: Channel,
+}
+
 /// What one thread's code may name, and how it is written.
 pub(super) struct Scope {
     locks: u8,
     thread: u8,
-    /// Kind and g of each variable.
-    variables: Vec<(u8, u8)>,
+    variables: Vec<Variable>,
     style: Style,
     max_depth: usize,
     /// Whether locks are only taken above those held, so that threads rarely block each other.
@@ -31,10 +39,12 @@ impl Scope {
         max_depth: usize,
         ordered: bool,
     ) -> Scope {
+        let records = source.variables.iter().zip(&source.channels);
+        let variables = records.map(|(&[kind, g, ..], &channel)| Variable { kind, g, channel });
         Scope {
             locks: source.locks,
             thread,
-            variables: source.variables.iter().map(|v| (v[0], v[1])).collect(),
+            variables: variables.collect(),
             style,
             max_depth: max_depth.min(MAX_OPEN),
             ordered,
@@ -178,35 +188,98 @@ impl<'r> Writer<'r> {
 
     /// A READ or WRITE of a variable that may be accessed here, if there is one.
     fn access(&mut self) {
-        let numbers: Vec<u8> = (0..self.scope.variables.len() as u8).collect();
-        let usable: Vec<u8> = numbers.into_iter().filter(|&v| self.may_use(v)).collect();
-        let Some(variable) = self.rng.pick(&usable) else {
+        let numbers = 0..self.scope.variables.len() as u8;
+        let usable = numbers.filter(|&v| self.may_read(v) || self.may_write(v));
+        let Some(variable) = self.rng.pick(&usable.collect::<Vec<u8>>()) else {
             return self.calculation();
         };
-        let (kind, _) = self.scope.variables[usize::from(variable)];
-        let register = self.register();
-        let fixed = kind == 2 && self.disciplined();
-        if kind == 3 {
+        if self.may_write(variable) && (!self.may_read(variable) || self.rng.chance(50)) {
+            self.write_to(variable);
+        } else {
+            self.read_from(variable);
+        }
+    }
+
+    fn variable(&self, number: u8) -> Variable {
+        self.scope.variables[usize::from(number)]
+    }
+
+    fn may_read(&self, number: u8) -> bool {
+        let variable = self.variable(number);
+        !self.disciplined()
+            || match variable.kind {
+                0 => self.held.holds(variable.g),
+                1 => variable.g == self.scope.thread,
+                2 => true,
+                _ => self.reads_alone(variable) || !self.only_left_movers(),
+            }
+    }
+
+    fn may_write(&self, number: u8) -> bool {
+        let variable = self.variable(number);
+        !self.disciplined()
+            || match variable.kind {
+                2 => false,
+                3 => variable.channel.may_write(self.scope.thread) && !self.only_left_movers(),
+                _ => self.may_read(number),
+            }
+    }
+
+    /// Whether a READ of an open variable is B.
+    fn reads_alone(&self, variable: Variable) -> bool {
+        variable.channel.is_alone(self.scope.thread)
+    }
+
+    fn read_from(&mut self, number: u8) {
+        let (variable, to) = (self.variable(number), self.register());
+        if variable.kind == 3 && !self.reads_alone(variable) {
             self.commit();
         }
-        self.code.push(if fixed || self.rng.chance(50) {
-            let to = register;
-            Read { to, variable }
-        } else {
-            let from = register;
-            Write { from, variable }
+        self.code.push(Read {
+            to,
+            variable: number,
         });
     }
 
-    fn may_use(&self, variable: u8) -> bool {
-        let (kind, g) = self.scope.variables[usize::from(variable)];
-        !self.disciplined()
-            || match kind {
-                0 => self.held.holds(g),
-                1 => g == self.scope.thread,
-                2 => true,
-                _ => !self.only_left_movers(),
-            }
+    fn write_to(&mut self, number: u8) {
+        let (variable, from) = (self.variable(number), self.register());
+        let write = Write {
+            from,
+            variable: number,
+        };
+        if variable.kind == 3 {
+            self.commit();
+        }
+        if variable.kind == 3 && variable.channel.unreached && self.disciplined() {
+            self.unreached(write);
+        } else {
+            self.code.push(write);
+        }
+    }
+
+    /// An instruction in that part of an IF that is not taken, whatever the other threads do. (One
+    /// entry deeper than asked for, where the limit allows it.)
+    fn unreached(&mut self, instruction: Instruction) {
+        if self.depth == MAX_OPEN {
+            return self.calculation();
+        }
+        let test = self.register();
+        let then_part = self.rng.chance(50);
+        let number = u16::from(!then_part);
+        self.code.push(Set { to: test, number });
+        let (to_else, to_end) = if then_part { (2, 1) } else { (1, 2) };
+        self.code.push(If {
+            test,
+            distance: to_else,
+        });
+        if then_part {
+            self.code.push(instruction);
+        }
+        self.code.push(Else { distance: to_end });
+        if !then_part {
+            self.code.push(instruction);
+        }
+        self.code.push(End);
     }
 
     /// After an A or L, a block may only have left movers.
