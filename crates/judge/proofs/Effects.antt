@@ -6,7 +6,7 @@
 --     StepOf, step-of  what nesting is after an instruction, by its effect
 use Prim.Native.Nat.{ℕ, suc, _+_, _<_}
 use mathlib.Core.Path.{_≡_, refl, sym, ap, subst}
-use mathlib.Core.Bool.{Bool, true, false, not}
+use mathlib.Core.Bool.{Bool, true, false, not, _||_}
 use mathlib.Core.List.{List, _∷_}
 use lib.ListN.{length, set}
 use Rattle.atomicity.specs.Atomicity.{reportByte, composition}
@@ -18,6 +18,7 @@ use Rattle.program.specs.Answer.{fine, _>>=_, require}
 use Rattle.program.specs.Choice.{choose}
 use Rattle.program.specs.Layout.{Program}
 use Rattle.program.specs.Limits.{entryLimit}
+use Rattle.program.specs.Writers.{writtenByOther}
 use Rattle.program.specs.Internal.WellFormed as Passing
 use Rattle.program.specs.View as form
 use Rattle.program.specs.declared.instruction.Instruction.{Instruction}
@@ -49,11 +50,20 @@ access-passes : (p : Program) (c v : ℕ) (isWrite : Bool) → Passes (accessAto
 unfolding accessAtomicity
 access-passes p c v isWrite = by-kind (kindAt p v)
   where
-    by-kind : (k : Kind) → Passes (elim k [ Guarded g ↦ atomicity.Both | Own g ↦ atomicity.Both | Fixed ↦ atomicity.Both | Open ↦ atomicity.Atomic ])
+    chosen : (races : Bool) → Passes (choose races atomicity.Atomic atomicity.Both)
+    chosen true = as-atomic
+    chosen false = as-both
+
+    by-kind : (k : Kind) → Passes (elim k [
+      | Guarded g ↦ atomicity.Both
+      | Own g ↦ atomicity.Both
+      | Fixed ↦ atomicity.Both
+      | Open ↦ choose (isWrite || writtenByOther p c v) atomicity.Atomic atomicity.Both
+    ])
     by-kind (Guarded g) = as-both
     by-kind (Own g) = as-both
     by-kind Fixed = as-both
-    by-kind Open = as-atomic
+    by-kind Open = chosen (isWrite || writtenByOther p c v)
 
 module _ (d at : ℕ) (s : LockSet) (a : Atomicity) (fs : List Frame) (report : List ℕ) where
   -- what is carried on from an instruction of atomicity b that leads to the lock set t

@@ -8,13 +8,13 @@
 --     Seen         what the rules see of an instruction that a `_ =>` arm takes
 --     Contents     a file's contents by index
 --     Writers      the threads that write a variable
---     MarksLength  the table of writers, part by part
 --     Search       the search for the first offence
 --     Stack        a stack held in an array
 --     Change       what one instruction does to the open entries
 --     Scan         the scan for the first place where nesting is broken
 --     Walking      the walk over a code section, one instruction at a time
 --     Marks        the table of writers, filled an instruction at a time
+--     MarkedParts  ... part by part of the file
 --     WriterTable  what the table of writers says
 --     ReadBack     what is known where reading a part of the file answered a value
 --     CodeSections the code sections of the threads, as they are read
@@ -35,13 +35,13 @@ pub mod Decode
 pub mod Seen
 pub mod Contents
 pub mod Writers
-pub mod MarksLength
 pub mod Search
 pub mod Stack
 pub mod Change
 pub mod Scan
 pub mod Walking
 pub mod Marks
+pub mod MarkedParts
 pub mod WriterTable
 pub mod ReadBack
 pub mod CodeSections

@@ -1,6 +1,5 @@
 -- What the table of writers says: a variable's byte has a bit besides code c's exactly if another code writes the variable. Assumes nothing.
 --     besides-or, besides-bit   a bit besides those of another number, and of a code's
---     length-all                a table keeps its length
 --     table-says                the table of all codes
 use Prim.Native.Nat.{ℕ, zero, suc, _+_, _*_, _/_, _%_, _^_, _<_, max}
 use mathlib.Core.Path.{_≡_, refl, sym, ap, ap₂, _∙_}
@@ -14,7 +13,7 @@ use borrow.Author.Tests.{eqb-true, eqb-false, eq-eqb, ne-eqb, ltb-true, ltb-fals
 use lib.Arith.{bin-ind}
 use lib.Bits.{bitOr, or-step, or-comm, or-self, or-shr, or-shifted, or-shifted-r}
 use lib.Dec.{eqb, ltb}
-use lib.ListN.{length, getD, replicate, length-replicate, getD-replicate, length-set}
+use lib.ListN.{length, getD, replicate, length-replicate, getD-replicate}
 use lib.Pow.{pow-lt, pow-pos}
 use lib.Seq.{getD-set-same, getD-set-other}
 use Rattle.program.specs.Layout.{Program, CodeSection}
@@ -23,6 +22,7 @@ use Rattle.program.specs.View.{Access, none, reads, writes, takes, gives
 use Rattle.program.specs.Writers.{isWriteOf, hasWrite, writtenFrom, writtenByOther}
 use Rattle.program.specs.Internal.Marks.{besides, marked, markedAll, markedCodes, writerTable}
 use Rattle.program.specs.declared.instruction.Instruction.{Instruction}
+use Rattle.program.proofs.MarkedParts.{length-one, length-marked}
 
 -- ---- bits
 
@@ -89,18 +89,6 @@ besides-bit n c = elim (ℕ-discrete n c) [
 
 -- ---- the table
 
-length-marked : (bit : ℕ) (x : Access) (t : List ℕ) → length (marked bit x t) ≡ length t
-length-marked bit none t = refl
-length-marked bit (reads w) t = refl
-length-marked bit (writes w a) t = length-set t w _
-length-marked bit (takes k) t = refl
-length-marked bit (gives k) t = refl
-
-pub length-all : (bit : ℕ) (is : List Instruction) (t : List ℕ) → length (markedAll bit is t) ≡ length t
-unfolding markedAll
-length-all bit [] t = refl
-length-all bit (i ∷ is) t = length-all bit is (marked bit (accessOf i) t) ∙ length-marked bit (accessOf i) t
-
 -- the same tests in another order
 or-rotate : (h w b : Bool) → (h || (w || b)) ≡ ((w || h) || b)
 or-rotate true true b = refl
@@ -137,7 +125,7 @@ module _ (c v : ℕ) where
   all-beside n [] t h = rw (and-false (not (eqb n c)))
   all-beside n (i ∷ is) t h =
       let x = accessOf i in
-      all-beside n is (marked (2 ^ n) x t) (rw (length-marked (2 ^ n) x t) h)
+      all-beside n is (marked (2 ^ n) x t) (rw (length-one (2 ^ n) x t) h)
       ∙ ap (λ (b : Bool). not (eqb n c) && hasWrite v is || b) (marked-beside n x t h)
       ∙ and-rotate (not (eqb n c)) (hasWrite v is) (isWriteOf v x) (beside t)
 
@@ -146,7 +134,7 @@ module _ (c v : ℕ) where
   unfolding markedCodes writtenFrom
   codes-beside n [] t h = refl
   codes-beside n (x ∷ xs) t h =
-      codes-beside (suc n) xs (markedAll (2 ^ n) (x .code) t) (rw (length-all (2 ^ n) (x .code) t) h)
+      codes-beside (suc n) xs (markedAll (2 ^ n) (x .code) t) (rw (length-marked (2 ^ n) (x .code) t) h)
       ∙ ap (λ (b : Bool). writtenFrom c v (suc n) xs || b) (all-beside n (x .code) t h)
       ∙ or-rotate (writtenFrom c v (suc n) xs) (not (eqb n c) && hasWrite v (x .code)) (beside t)
 

@@ -1,6 +1,13 @@
 -- `fill_rules`: the rules of the variables before v stand in both tables. Assumes nothing.
-use Prim.Native.Nat.{_-_}
+use Prim.Native.Nat.{ℕ, _-_, _^_}
+use mathlib.Core.Path.{ap, _∙_}
+use mathlib.Core.List.{List}
 use native.Mathlib.Omega.{arith}
+use lib.ListN.{getD}
+use Rattle.program.specs.Layout.{programOf}
+use Rattle.program.specs.Writers.{writtenByOther}
+use Rattle.program.specs.Internal.Marks.{besides}
+use Rattle.program.proofs.WriterTable.{table-says}
 use Rattle.judge.proofs.AccessRules.{RulesFilled, filled-start, filled-next, filled-end}
 use Rattle.judge.proofs.access_rule.fill_rules.Statement.{statement}
 use Rattle.judge.proofs.access_rule.fill_rules.Tie as tie
@@ -54,8 +61,13 @@ loop-less c = omega arith
 
 loop-again : tie.Need-loop-again Inv-loop μ-loop
 loop-again c =
-    rw (c .before .read-rule .ensures, c .write-rule .ensures, c .before .before .kind-at .ensures)
-    (filled-next _ _ (c .before .before .before .before .before .before .before .pre .0) _ _ _ _ (c .before .before .before .before .before .loop .inv) (c .before .before .before .if1 .taken))
+    let start = c .before .before .before .before .before .before .before .before .before in
+    let l = c .before .before .before .before .before .before .before .loop in
+    let more = c .before .before .before .before .before .if1 .taken in
+    let others = c .before .before .written-by-other .ensures ∙ ap (λ (t : List ℕ). besides (2 ^ start .args .code) (getD t (l .v) 0)) (start .pre .4)
+    ∙ table-says (start .args .code) (l .v) (programOf (start .args .s .now) (start .args .l)) (omega (arith, more, start .pre .0 .variables)) in
+    rw (c .before .read-rule .ensures, others, c .write-rule .ensures (writtenByOther (programOf (start .args .s .now) (start .args .l)) (start .args .code) (l .v)), c .before .before .before .before .kind-at .ensures)
+    (filled-next _ _ (start .pre .0) _ _ _ _ (l .inv) more)
 
 returns : tie.Need-returns Inv-loop μ-loop
 returns c = filled-end _ _ (c .before .before .before .before .pre .0) _ _ _ _ (c .before .before .loop .inv) (c .if1 .left)

@@ -11,13 +11,13 @@ use Rattle.judge.proofs.judging.walk_codes.Statement.{statement}
 use Rattle.judge.proofs.judging.walk_codes.Tie as tie
 
 abbrev Inv-loop : tie.InvT-loop
-Inv-loop rows s l starts counts report₀ reads₀ writes₀ number₀ first₀ report reads writes number first =
+Inv-loop rows s l starts counts writers report₀ reads₀ writes₀ number₀ first₀ report reads writes number first =
     ((table : SectionTable s l starts counts) → Walking s l starts counts table report₀ report number first)
     × (length reads ≡ variableLimit)
     × (length writes ≡ variableLimit)
 
 abbrev μ-loop : tie.MeasureT-loop
-μ-loop rows s l starts counts report₀ reads₀ writes₀ number₀ first₀ report reads writes number first =
+μ-loop rows s l starts counts writers report₀ reads₀ writes₀ number₀ first₀ report reads writes number first =
     l .threads - number
 
 -- what holds at the loop's head
@@ -27,9 +27,9 @@ here u = u .loop .inv .0 (u .before .before .before .before .pre .1)
 loop-holds : tie.Need-loop-holds Inv-loop μ-loop
 loop-holds c = (λ table. walking-start _ _ _ _ table _, refl, refl)
 
--- `fill_rules(s, l, number, &mut reads, &mut writes)`
+-- `fill_rules(s, l, number, writers, &mut reads, &mut writes)`
 fill-rules-requires : tie.Need-fill-rules-requires Inv-loop μ-loop
-fill-rules-requires c κs = (c .before .before .before .before .before .before .before .before .pre .1 .sound, c .before .before .before .before .loop .inv .1, c .before .before .before .before .loop .inv .2)
+fill-rules-requires c κs = (c .before .before .before .before .before .before .before .before .pre .1 .sound, c .before .before .before .before .loop .inv .1, c .before .before .before .before .loop .inv .2, omega (arith, c .before .before .before .before .before .before .before .before .pre .1 .sound .threads), c .before .before .before .before .before .before .before .before .pre .3)
 
 -- `let start = starts[number]`
 mul-start : tie.Need-mul-start Inv-loop μ-loop

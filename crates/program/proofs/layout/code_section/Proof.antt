@@ -12,7 +12,7 @@ use Rattle.program.specs.Internal.Marks.{markedAll}
 use Rattle.program.specs.Internal.Walk.{firstInvalid}
 use Rattle.program.specs.declared.found.Found.{Found}
 use Rattle.program.specs.declared.cursor.Cursor.{Cursor}
-use Rattle.program.proofs.MarksLength.{nested-marked}
+use Rattle.program.proofs.MarkedParts.{nested-marked}
 use Rattle.program.proofs.ReadBack.{Head, section-value}
 use Rattle.program.proofs.Walking.{walked-invalid, walked-broken, walked-nested}
 use Rattle.program.proofs.layout.code_section.Statement.{statement}

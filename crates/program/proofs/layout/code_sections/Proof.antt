@@ -14,7 +14,7 @@ use Rattle.program.specs.Layout.{codesAt, instructionsAt, codeSection, c
 use Rattle.program.specs.Internal.Rows.{limitsOf}
 use Rattle.program.specs.Internal.Answered.{fieldAnswer}
 use Rattle.program.specs.Internal.Marks.{markedAll, markedCodes}
-use Rattle.program.proofs.MarksLength.{value-marked, refused-marked, length-marked, code-bit, codes-next, codes-done}
+use Rattle.program.proofs.MarkedParts.{value-marked, refused-marked, length-marked, code-bit, codes-next, codes-done}
 use Rattle.program.specs.declared.cursor.Cursor.{Cursor}
 use Rattle.program.proofs.ReadBack.{CodeRead, code-value}
 use Rattle.program.proofs.CodeSections.{added, added-nothing, added-section, added-refused, added-all}

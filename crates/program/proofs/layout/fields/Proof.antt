@@ -11,7 +11,7 @@ use Rattle.program.specs.Layout.{CodeSection, fields, variableSection, c
 use Rattle.program.specs.Limits.{lockLimit, variableLimit}
 use Rattle.program.specs.Internal.Answered.{fieldAnswer}
 use Rattle.program.specs.Internal.Marks.{codesIn, markedCodes}
-use Rattle.program.proofs.MarksLength.{value-marked, refused-marked}
+use Rattle.program.proofs.MarkedParts.{value-marked, refused-marked}
 use Rattle.program.proofs.ReadBack.{variables-value, codes-in}
 use Rattle.program.proofs.Steps.{afterSections, afterVariables, afterThreads, afterLocks}
 use Rattle.program.proofs.layout.fields.Statement.{statement}

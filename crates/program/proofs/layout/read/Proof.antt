@@ -7,7 +7,7 @@ use borrow.Author.Needs.{needs}
 use Rattle.program.specs.Layout.{programOf, reading}
 use Rattle.program.specs.Limits.{recordsStart}
 use Rattle.program.specs.Internal.Answered.{fieldAnswer}
-use Rattle.program.proofs.MarksLength.{value-marked}
+use Rattle.program.proofs.MarkedParts.{value-marked}
 use Rattle.program.proofs.Sound.{fields-sound}
 use Rattle.program.proofs.layout.read.Statement.{statement}
 use Rattle.program.proofs.layout.read.Tie as tie

@@ -1,6 +1,7 @@
 -- The table of writers, part by part. Assumes nothing.
---     length-marked                   marking keeps its length
---     nested-marked, value-marked     what is in it after a walk that ended, and after a part of the file that was read
+--     length-one, length-marked       marking keeps its length
+--     nested-marked, value-marked, sound-marked
+--                                     what is in it after a walk that ended, a part of the file that was read, a file that is sound
 --     refused-marked                  of a refused part nothing is said
 --     code-bit                        1 shifted to a code's bit
 --     codes-next, codes-done          one code section more, and none left
@@ -13,28 +14,31 @@ use lib.ListN.{length, length-set}
 use lib.Pow.{shl-exact}
 use Rattle.program.specs.Field.{pairAt}
 use Rattle.program.specs.Limits.{threadLimit, instructionSize}
-use Rattle.program.specs.Layout.{instructionsAt, codesAt}
+use Rattle.program.specs.Layout.{instructionsAt, codesAt, programOf}
 use Rattle.program.specs.View.{Access, none, reads, writes, takes, gives, accessOf}
-use Rattle.program.specs.Internal.Marks.{marked, markedAll, markedCodes, MarkedCode, Marked}
+use Rattle.program.specs.Internal.Marks.{marked, markedAll, markedCodes, MarkedCode, Marked, MarkedFile}
 use Rattle.program.specs.declared.cursor.Cursor.{Cursor}
 use Rattle.program.specs.declared.cursor.Field.{Field}
 use Rattle.program.specs.declared.cursor.Field.the-variants.{Value, Refused}
 use Rattle.program.specs.declared.instruction.Instruction.{Instruction}
+use Rattle.program.specs.declared.layout.Layout.{Layout}
+use Rattle.program.specs.declared.layout.Reading.{Reading}
+use Rattle.program.specs.declared.layout.Reading.the-variants.{Sound}
 use Rattle.program.specs.declared.refusal.Refusal.{Refusal}
 use Rattle.program.specs.declared.walk.Walked.{Walked}
 use Rattle.program.specs.declared.walk.Walked.the-variants.{Nested}
 
-length-marked-one : (bit : ℕ) (x : Access) (table : List ℕ) → length (marked bit x table) ≡ length table
-length-marked-one bit none table = refl
-length-marked-one bit (reads v) table = refl
-length-marked-one bit (writes v a) table = length-set table v _
-length-marked-one bit (takes k) table = refl
-length-marked-one bit (gives k) table = refl
+pub length-one : (bit : ℕ) (x : Access) (table : List ℕ) → length (marked bit x table) ≡ length table
+length-one bit none table = refl
+length-one bit (reads v) table = refl
+length-one bit (writes v a) table = length-set table v _
+length-one bit (takes k) table = refl
+length-one bit (gives k) table = refl
 
 pub length-marked : (bit : ℕ) (is : List Instruction) (table : List ℕ) → length (markedAll bit is table) ≡ length table
 unfolding markedAll
 length-marked bit [] table = refl
-length-marked bit (i ∷ is) table = length-marked bit is (marked bit (accessOf i) table) ∙ length-marked-one bit (accessOf i) table
+length-marked bit (i ∷ is) table = length-marked bit is (marked bit (accessOf i) table) ∙ length-one bit (accessOf i) table
 
 pub nested-marked : (r : Walked) (expected table : List ℕ) → r ≡ Nested → MarkedCode r expected table → table ≡ expected
 nested-marked r expected table e m = rw e at m
@@ -42,6 +46,10 @@ nested-marked r expected table e m = rw e at m
 pub value-marked : (r : Field) (n : ℕ) (end : Cursor) (expected : ℕ → List ℕ) (table : List ℕ) → r ≡ Value n end → Marked r expected table
     → table ≡ expected n
 value-marked r n end expected table e m = rw e at m
+
+pub sound-marked : (r : Reading) (l : Layout) (s before after : List ℕ) → r ≡ Sound l → MarkedFile r s before after
+    → after ≡ markedCodes 0 (programOf s l .codes) before
+sound-marked r l s before after e m = rw e at m
 
 pub refused-marked : (r : Field) (why : Refusal) (expected : ℕ → List ℕ) (table : List ℕ) → r ≡ Refused why → Marked r expected table
 refused-marked r why expected table e = rw e tt
