@@ -11,6 +11,8 @@ pub const OPEN: u8 = 3;
 // Instructions: r2, v0 and k0 where they name one; a loop or a choice looks at r0.
 pub const READ: [u8; 4] = [0x10, 2, 0, 0];
 
+pub const WRITE: [u8; 4] = [0x11, 2, 0, 0];
+
 pub const TAKE: [u8; 4] = [0x20, 0, 0, 0];
 
 pub const GIVE: [u8; 4] = [0x21, 0, 0, 0];

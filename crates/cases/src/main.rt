@@ -19,6 +19,7 @@ fn main() {
     mistakes::closure_of_atomic();
     mistakes::left_joined_with_right();
     mistakes::locks_of_the_then_part();
+    mistakes::writers_of_an_open_variable();
     moves::results();
     moves::places();
 }

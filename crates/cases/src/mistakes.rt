@@ -7,6 +7,7 @@ use crate::code::GUARDED;
 use crate::code::OPEN;
 use crate::code::READ;
 use crate::code::TAKE;
+use crate::code::WRITE;
 use crate::code::again_to;
 use crate::code::atomic_to;
 use crate::code::else_to;
@@ -15,16 +16,16 @@ use crate::code::while_to;
 use crate::show;
 use atomicity::Atomicity;
 
-// A;A is T: each READ of an open variable is A, the thread T, and a block of both is refused.
+// A;A is T: each WRITE of an open variable is A, the thread T, and a block of both is refused.
 pub fn atomic_then_atomic() {
-    code::judge(b"A;A: ", OPEN, &[READ, READ]);
-    code::judge(b"A;A in a block: ", OPEN, &[atomic_to(3), READ, READ, END]);
+    code::judge(b"A;A: ", OPEN, &[WRITE, WRITE]);
+    code::judge(b"A;A in a block: ", OPEN, &[atomic_to(3), WRITE, WRITE, END]);
 }
 
 // The closure of A is T.
 pub fn closure_of_atomic() {
-    code::judge(b"WHILE around A: ", OPEN, &[while_to(2), READ, again_to(2)]);
-    let code = [atomic_to(4), while_to(2), READ, again_to(2), END];
+    code::judge(b"WHILE around A: ", OPEN, &[while_to(2), WRITE, again_to(2)]);
+    let code = [atomic_to(4), while_to(2), WRITE, again_to(2), END];
     code::judge(b"WHILE around A in a block: ", OPEN, &code);
 }
 
@@ -41,3 +42,27 @@ pub fn locks_of_the_then_part() {
     let one = [if_to(3), TAKE, READ, else_to(2), READ, END, GIVE];
     code::judge(b"the else part READs without TAKE: ", GUARDED, &one);
 }
+
+// A READ of an open variable is A only because another thread has a WRITE of it: a thread's own does not count, and one before, one
+// behind and one that is not reached do.
+pub fn writers_of_an_open_variable() {
+    code::judge(b"READ with an own WRITE: ", OPEN, &[READ, WRITE]);
+    show::judge(b"READ with a WRITE in the next thread: ", &WRITER_BEHIND);
+    show::judge(b"READ with a WRITE in the thread before: ", &WRITER_BEFORE);
+    show::judge(b"READ with a WRITE that is not reached: ", &WRITE_NOT_REACHED);
+}
+
+// Version 1, no lock, two threads, an open variable; READ r2 v0 in one thread, WRITE r2 v0 in the other.
+const WRITER_BEHIND: [u8; 23] = [
+    1, 0, 2, 0, 6, 3, 0, 0, 0, 0, 5, 0, 4, 0x10, 2, 0, 0, 0, 4, 0x11, 2, 0, 0,
+];
+
+const WRITER_BEFORE: [u8; 23] = [
+    1, 0, 2, 0, 6, 3, 0, 0, 0, 0, 5, 0, 4, 0x11, 2, 0, 0, 0, 4, 0x10, 2, 0, 0,
+];
+
+// Thread 1: IF r0 2, WRITE r2 v0, ELSE 1, END.
+const WRITE_NOT_REACHED: [u8; 35] = [
+    1, 0, 2, 0, 6, 3, 0, 0, 0, 0, 5, 0, 4, 0x10, 2, 0, 0, 0, 16, 0x30, 0, 0, 2, 0x11, 2, 0, 0, 0x31,
+    0, 0, 1, 0x35, 0, 0, 0,
+];

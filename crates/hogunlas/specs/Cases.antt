@@ -52,7 +52,7 @@ countsPlacesLocks r =
 abbrev pub registers : Run → List ℕ
 registers r = flatMap (λ (th : Thread). th .registers) (r .state .threads)
 
--- Files of one thread: TAKE k0, GIVE k0, READ r2 v0, WRITE r2 v0, ATOMIC, END; SET a to n, ADD r1 from r2 and r3
+-- Codes: TAKE k0, GIVE k0, READ r2 v0, WRITE r2 v0, ATOMIC, END; SET a to n, ADD r1 from r2 and r3
 
 abbrev pub TAKE : List ℕ
 TAKE = 0x20 ∷ 0x00 ∷ 0x00 ∷ 0x00 ∷ []
@@ -93,6 +93,11 @@ abbrev pub file : (variables code : List ℕ) → List ℕ
 file variables code =
     0x01 ∷ 0x01 ∷ 0x01 ∷ 0x00 ∷ length variables ∷ variables ++ 0x00 ∷ length code ∷ code
 
+-- the same with a second thread, whose code is WRITE r2 v0
+abbrev pub fileAndWriter : (variables code : List ℕ) → List ℕ
+fileAndWriter variables code =
+    0x01 ∷ 0x01 ∷ 0x02 ∷ 0x00 ∷ length variables ∷ variables ++ 0x00 ∷ length code ∷ code ++ 0x00 ∷ 0x04 ∷ WRITE
+
 -- two threads TAKE k0, GIVE k0
 abbrev pub twoThreads : List ℕ
 twoThreads = 0x01 ∷ 0x01 ∷ 0x02 ∷ 0x00 ∷ 0x00 ∷ 0x00 ∷ 0x08 ∷ TAKE ++ GIVE ++ 0x00 ∷ 0x08 ∷ TAKE ++ GIVE
@@ -117,10 +122,12 @@ starred =
     ∷ case (judgeSays (file guardedVariable (ATOMIC 5 ++ TAKE ++ READ ++ WRITE ++ GIVE ++ END))) (numbers (4 ∷ 3 ∷ 1 ∷ 1 ∷ 2 ∷ 0 ∷ 4 ∷ []))
     -- The same four twice in one block: 13, at the END
     ∷ case (judgeSays (file guardedVariable (ATOMIC 9 ++ TAKE ++ READ ++ WRITE ++ GIVE ++ TAKE ++ READ ++ WRITE ++ GIVE ++ END))) (refusal 13 (13 + 36))
-    -- Block TAKE, READ open, GIVE: A
-    ∷ case (judgeSays (file openVariable (ATOMIC 4 ++ TAKE ++ READ ++ GIVE ++ END))) (numbers (4 ∷ 3 ∷ 4 ∷ 2 ∷ 0 ∷ 4 ∷ []))
-    -- Block READ open, TAKE, GIVE: 13, at the END
-    ∷ case (judgeSays (file openVariable (ATOMIC 4 ++ READ ++ TAKE ++ GIVE ++ END))) (refusal 13 (13 + 16))
+    -- Block TAKE, READ open, GIVE: A, whether another thread writes the variable or none does
+    ∷ case (judgeSays (fileAndWriter openVariable (ATOMIC 4 ++ TAKE ++ READ ++ GIVE ++ END))) (numbers (4 ∷ 3 ∷ 4 ∷ 2 ∷ 0 ∷ 4 ∷ 4 ∷ 4 ∷ []))
+    ∷ case (judgeSays (file openVariable (ATOMIC 4 ++ TAKE ++ READ ++ GIVE ++ END))) (numbers (4 ∷ 3 ∷ 1 ∷ 2 ∷ 0 ∷ 4 ∷ []))
+    -- Block READ open, TAKE, GIVE: 13, at the END, if another thread writes the variable; A if none does
+    ∷ case (judgeSays (fileAndWriter openVariable (ATOMIC 4 ++ READ ++ TAKE ++ GIVE ++ END))) (refusal 13 (13 + 16))
+    ∷ case (judgeSays (file openVariable (ATOMIC 4 ++ READ ++ TAKE ++ GIVE ++ END))) (numbers (4 ∷ 1 ∷ 3 ∷ 2 ∷ 0 ∷ 4 ∷ []))
     -- Two threads TAKE k0, GIVE k0, list 0 1 0 1: moved 3, waiting 1, idle 0; places 2 and 1; k0 holds 2
     ∷ case (runSays countsPlacesLocks twoThreads (0 ∷ 1 ∷ 0 ∷ 1 ∷ [])) (numbers (3 ∷ 1 ∷ 0 ∷ 2 ∷ 1 ∷ 2 ∷ []))
     ∷ []
