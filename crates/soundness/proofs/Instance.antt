@@ -12,12 +12,14 @@ use Rattle.atomicity.specs.declared.Atomicity.the-variants.{Left}
 use Rattle.judge.specs.Discipline.{moverOf}
 use Rattle.machine.specs.Block.{inside}
 use Rattle.program.specs.View.{accessOf}
-use Rattle.machine.specs.Step.{waits, locksAfter, moveBy, outcome}
+use Rattle.machine.specs.State.{threadOf}
+use Rattle.machine.specs.Step.{waits, locksAfter, instructionOf, moveBy, outcome}
 use Rattle.machine.specs.declared.thread.Outcome.the-variants.{Moved}
-use Rattle.program.specs.Layout.{Program}
+use Rattle.program.proofs.Writers.{has-write}
+use Rattle.program.specs.Layout.{Program, codeOf}
 use Rattle.program.specs.declared.instruction.Instruction.{Instruction}
 use Rattle.reduction.specs.Moves.{Movers, Unmoved, Swappable, outside}
-use Rattle.soundness.specs.Internal.Access.{Permitted, Independent, Swaps, right-first, left-second}
+use Rattle.soundness.specs.Internal.Access.{Permitted, StandsIn, Independent, Swaps, right-first, left-second}
 use Rattle.soundness.specs.Internal.Flow.{Label, moverAt}
 use Rattle.soundness.specs.Internal.Labelled.{Row, row}
 use Rattle.soundness.specs.Internal.Instance.{ThreadsAnnotated, nextInstruction, nextAccess, Swapped, placeOf, labelOf, rowOf, nextMover, Invariant, Moving, machineMoves, blockOf}
@@ -42,6 +44,11 @@ module _ (p : Program) (A : ThreadsAnnotated p) where
 
   -- ---- two moves
 
+  -- a thread's next access, if it is a WRITE, stands in its code
+  stands : (g : Named) (t : ℕ) → StandsIn (codeOf p t) (nextAccess p g t)
+  unfolding instructionOf
+  stands g t v a e = has-write (codeOf p t) (threadOf (g .machine) t .place) v a e
+
   module _ {g : Named} (inv : Invariant p A g) {t u : ℕ} (n : t ≢ u) (t-is : t < p .threads) (u-is : u < p .threads)
       (e : outcome p t (g .machine) ≡ Moved) (f : outcome p u (movedNamed p t g .machine) ≡ Moved)
       (m : Swaps (nextMover p A g t) (nextMover p A g u)) where
@@ -61,7 +68,8 @@ module _ (p : Program) (A : ThreadsAnnotated p) where
     unfolding moverOf
     apart =
         independent p n (inv .owns t) (inv .owns u) (nextAccess p g t) (nextAccess p g u)
-        (permitted p A inv t t-is e) permitted-second (access-below p A inv t t-is e) (moved-waits p t (g .machine) e) waits-second m
+        (permitted p A inv t t-is e) permitted-second (access-below p A inv t t-is e) (stands g t) (stands g u)
+        (moved-waits p t (g .machine) e) waits-second m
 
     swap : Swapped p g t u
     unfolding movedNamed moved

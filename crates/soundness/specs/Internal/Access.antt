@@ -3,6 +3,7 @@
 --     Permitted            a thread may make the access
 --     setAfter             the lock set behind the access
 --     AccessesBelow        instructions name only locks and variables that there are
+--     StandsIn             a WRITE stands in the code
 --     Owns                 a thread holds the locks of a set
 --     NoLock, NoVariable   an access touches no lock, no variable
 --     Independent          neither of two accesses sees the other
@@ -22,6 +23,7 @@ use Rattle.judge.specs.declared.lock_set.LockSet.{LockSet}
 use Rattle.program.specs.View.{Access, none, reads, writes, takes, gives, accessOf}
 use Rattle.machine.specs.Step.{waits, valueRead, variablesAfter, locksAfter}
 use Rattle.program.specs.Layout.{Program}
+use Rattle.program.specs.Writers.{hasWrite}
 use Rattle.program.specs.Internal.Sound.{AccessBelow}
 use Rattle.program.specs.declared.instruction.Instruction.{Instruction}
 use Rattle.program.specs.declared.instruction.Instruction.the-variants.{End}
@@ -45,6 +47,10 @@ setAfter (gives k) s = withoutLock s k
 -- each instruction's lock or variable is one that there is
 abbrev pub AccessesBelow : Program → List Instruction → Type 0
 AccessesBelow p is = (q : ℕ) → AccessBelow (p .locks) (length (p .variables)) (accessOf (getD is q End))
+
+-- an access that is a WRITE is one that the code has
+abbrev pub StandsIn : List Instruction → Access → Type 0
+StandsIn is x = (v a : ℕ) → x ≡ writes v a → hasWrite v is ≡ true
 
 -- thread t holds the locks of the set
 pub record Owns (t : ℕ) (s : LockSet) (ks : List ℕ) : Type 0 where
