@@ -48,6 +48,14 @@ fn report(variable: [u8; 6], code: &[Instruction]) -> Result<Vec<u8>, Refusal> {
     judge_in(100, &file(1, &[variable], &[code]))
 }
 
+/// The same, where another thread writes the variable: what is reported on the first.
+fn report_beside_writer(variable: [u8; 6], code: &[Instruction]) -> Result<Vec<u8>, Refusal> {
+    let both = judge_in(100, &file(1, &[variable], &[code, &[WRITE]]))?;
+    let (first, second) = both.split_at(code.len() + 1);
+    assert_eq!(second, [4, 4], "WRITE is A, and so is the whole");
+    Ok(first.to_vec())
+}
+
 /// The offset of a place in such a file.
 fn offset(place: usize) -> u64 {
     3 + 2 + 6 + 2 + 4 * place as u64
@@ -108,15 +116,20 @@ fn block_of_two_critical_sections_is_refused() {
 }
 
 #[test]
-fn block_of_take_read_open_give_is_atomic() {
+fn block_of_take_read_open_give_is_atomic_whoever_writes() {
     let code = block(&[TAKE, READ, GIVE]);
-    assert_eq!(report(OPEN, &code), Ok(vec![4, 3, 4, 2, 0, 4]));
+    assert_eq!(
+        report_beside_writer(OPEN, &code),
+        Ok(vec![4, 3, 4, 2, 0, 4])
+    );
+    assert_eq!(report(OPEN, &code), Ok(vec![4, 3, 1, 2, 0, 4]));
 }
 
 #[test]
-fn block_of_read_open_take_give_is_refused() {
+fn block_of_read_open_take_give_is_refused_if_another_thread_writes() {
     let code = block(&[READ, TAKE, GIVE]);
-    assert_eq!(report(OPEN, &code), refused(13, offset(4)));
+    assert_eq!(report_beside_writer(OPEN, &code), refused(13, offset(4)));
+    assert_eq!(report(OPEN, &code), Ok(vec![4, 1, 3, 2, 0, 4]));
 }
 
 #[test]
@@ -204,15 +217,25 @@ fn while_around_take_give_is_refused_within_a_block() {
 
 #[test]
 fn two_atomic_parts_are_not_atomic() {
-    assert_eq!(report(OPEN, &[READ, READ]), Ok(vec![4, 4, 5]));
-    assert_eq!(report(OPEN, &block(&[READ, READ])), refused(13, offset(3)));
+    for code in [[READ, READ], [READ, WRITE], [WRITE, READ], [WRITE, WRITE]] {
+        assert_eq!(report_beside_writer(OPEN, &code), Ok(vec![4, 4, 5]));
+        let answer = report_beside_writer(OPEN, &block(&code));
+        assert_eq!(answer, refused(13, offset(3)));
+    }
+    assert_eq!(report(OPEN, &[WRITE, WRITE]), Ok(vec![4, 4, 5]));
+    assert_eq!(
+        report(OPEN, &block(&[WRITE, WRITE])),
+        refused(13, offset(3))
+    );
 }
 
 #[test]
 fn repeating_an_atomic_part_is_not_atomic() {
-    assert_eq!(report(OPEN, &repeat(&[READ])), Ok(vec![5, 4, 0, 5]));
-    let code = block(&repeat(&[READ]));
-    assert_eq!(report(OPEN, &code), refused(13, offset(4)));
+    for code in [READ, WRITE].map(|access| repeat(&[access])) {
+        assert_eq!(report_beside_writer(OPEN, &code), Ok(vec![5, 4, 0, 5]));
+        let answer = report_beside_writer(OPEN, &block(&code));
+        assert_eq!(answer, refused(13, offset(4)));
+    }
 }
 
 /// No base file shows it, because the parts' sets would differ; so the algebra has to.
@@ -432,10 +455,10 @@ fn the_test_program_prints_these_answers() {
         of(name, OPEN, &again),
         format!("{name}, last line: {}", String::from_utf8(whole).unwrap()),
         of(&format!("{name} in a block"), OPEN, &block(&again)),
-        of("A;A", OPEN, &[READ, READ]),
-        of("A;A in a block", OPEN, &block(&[READ, READ])),
-        of("WHILE around A", OPEN, &repeat(&[READ])),
-        of("WHILE around A in a block", OPEN, &block(&repeat(&[READ]))),
+        of("A;A", OPEN, &[WRITE, WRITE]),
+        of("A;A in a block", OPEN, &block(&[WRITE, WRITE])),
+        of("WHILE around A", OPEN, &repeat(&[WRITE])),
+        of("WHILE around A in a block", OPEN, &block(&repeat(&[WRITE]))),
         format!("L joined with R: {joined}\n"),
         of("both parts TAKE", GUARDED_BY_K0, &both_take),
         of(
@@ -459,7 +482,7 @@ fn every_instruction_is_printed_with_its_fields() {
         "03 01 02 03 2 ADD r1 r2 r3 B",
         "04 04 05 06 3 SUB r4 r5 r6 B",
         "05 00 01 02 4 LESS r0 r1 r2 B",
-        "10 03 01 00 5 READ r3 v1 A",
+        "10 03 01 00 5 READ r3 v1 B",
         "11 03 01 00 6 WRITE r3 v1 A",
         "30 04 00 02 7 IF r4 2 B",
         "01 00 00 00 8 SET r0 0 B",
@@ -475,7 +498,22 @@ fn every_instruction_is_printed_with_its_fields() {
     let head = "01 version 1\n00 locks 0\n01 threads 1\n000C variables 2\n\
         02 00 00000009 v0 fixed 9\n03 00 80000000 v1 open 2147483648\n003C thread 0 code 15\n";
     let printed = String::from_utf8(bench(&file)).unwrap();
-    assert_eq!(printed, format!("{head}{}\nthread 0 T\n", code.join("\n")));
+    assert_eq!(printed, format!("{head}{}\nthread 0 A\n", code.join("\n")));
+}
+
+/// The letters of a printout's READ and of its thread's whole follow the other thread's code.
+#[test]
+fn a_read_of_an_open_variable_is_printed_as_it_is_judged() {
+    for (other, letter) in [(WRITE, 'A'), (READ, 'B')] {
+        let file = file(0, &[OPEN], &[&[READ], &[other]]);
+        let read = format!("10 02 00 00 0 READ r2 v0 {letter}\n");
+        let whole = format!("thread 0 {letter}\n");
+        assert_eq!(line_in(48, &file, 6), Ok(read.clone().into_bytes()));
+        assert_eq!(line_in(48, &file, 9), Ok(whole.clone().into_bytes()));
+        let printed = String::from_utf8(bench(&file)).unwrap();
+        assert!(printed.contains(&(read + "0004 thread 1 code 1\n")));
+        assert!(printed.contains(&(whole + "thread 1 ")));
+    }
 }
 
 #[test]

@@ -64,6 +64,22 @@ fn judge_meets_every_refusal_and_keeps_its_buffer() {
     tally.assert_met((0..=13).chain([16]));
 }
 
+/// Reading alone looks at no other thread's code, and judging does so first: the sender's refusals
+/// must be the same.
+#[test]
+fn judging_refuses_what_reading_refuses_and_alike() {
+    let mut tally = Tally::default();
+    for seed in 0..5 * FILES {
+        let file = generate::file(&mut Rng::new(seed));
+        if let Err(refusal) = Program::read(&file).map(|_| ()) {
+            let answer = judge(&file, &mut [0; 8200]);
+            assert_eq!(answer, Err(refusal), "seed {seed}");
+            tally.add(&answer);
+        }
+    }
+    tally.assert_met(1..=8);
+}
+
 /// What stands where a refusal was found: numbers that are found at several kinds of places.
 fn site(file: &[u8], refusal: &Refusal) -> Option<&'static str> {
     let at = refusal.detail as usize;

@@ -1,6 +1,6 @@
-//! Where reading and judging in one pass, tests by masks, and vector instructions could go wrong:
-//! fields at their limits, offences of different kinds in one file, offences at the first and the
-//! last place, and codes of no and of 1,024 instructions.
+//! Where reading and judging in one pass after a search for WRITEs, tests by masks, and vector
+//! instructions could go wrong: fields at their limits, offences of different kinds in one file,
+//! offences and WRITEs at the first and the last place, and codes of no and of 1,024 instructions.
 
 mod common;
 
@@ -14,7 +14,12 @@ const GUARDED_BY_K0: [u8; 6] = [0, 0, 0, 0, 0, 0];
 const TAKE: Instruction = Take { lock: 0 };
 const GIVE: Instruction = Give { lock: 0 };
 const READ: Instruction = Read { to: 0, variable: 0 };
+const WRITE: Instruction = write_of(0);
 const PLAIN: Instruction = Set { to: 0, number: 0 };
+
+const fn write_of(variable: u8) -> Instruction {
+    Write { from: 0, variable }
+}
 
 /// What a refused file is refused with.
 fn refusal(file: &[u8]) -> (u32, u64) {
@@ -355,7 +360,7 @@ fn offences_at_the_last_place_of_the_largest_file() {
         refusal(&file(16, &[OPEN; 64], &codes))
     };
     let mut plain = vec![PLAIN; 1_024];
-    assert_eq!(with_last(full_block(READ)), (13, 33_169));
+    assert_eq!(with_last(full_block(WRITE)), (13, 33_169));
     plain[1_023] = TAKE;
     assert_eq!(with_last(plain.clone()), (12, 33_173), "the section's end");
     plain[1_023] = GIVE;
@@ -373,6 +378,120 @@ fn the_last_place_is_stepped_on_and_past() {
     let (counts, state) = run_in(34, &file, &[0; 1_030], 34).unwrap();
     assert_eq!((counts.moved, counts.waiting, counts.idle), (1_024, 0, 6));
     assert_eq!(state[..2], [4, 0]);
+}
+
+// The search for WRITEs.
+
+/// The report's byte for a READ of an open variable at thread 0's first place, beside the other
+/// threads' code.
+fn read_beside(variable: u8, others: &[&[Instruction]]) -> u8 {
+    let read = [Read { to: 0, variable }];
+    let codes = [&[&read[..]], others].concat();
+    judge_in(8_200, &file(16, &[OPEN; 64], &codes)).expect("an accepted file")[0]
+}
+
+/// WRITEs are searched for in groups of words, so every length and place up to some groups is
+/// tried, and every place of the longest code.
+#[test]
+fn a_write_is_found_at_every_place() {
+    for length in (1..=40).chain([1_023, 1_024]) {
+        let mut code = vec![PLAIN; length];
+        assert_eq!(read_beside(0, &[&code]), 1);
+        for place in 0..length {
+            code[place] = WRITE;
+            assert_eq!(read_beside(0, &[&code]), 4, "place {place} of {length}");
+            code[place] = PLAIN;
+        }
+    }
+}
+
+#[test]
+fn a_write_of_every_variable_counts_for_that_one_alone() {
+    for written in 0..64 {
+        for read in 0..64 {
+            let wanted = if read == written { 4 } else { 1 };
+            assert_eq!(read_beside(read, &[&[write_of(written)]]), wanted);
+        }
+    }
+    let all: Vec<Instruction> = (0..64).map(write_of).collect();
+    for read in 0..64 {
+        assert_eq!(read_beside(read, &[&all]), 4);
+    }
+}
+
+#[test]
+fn a_write_in_every_thread_counts_for_all_others() {
+    for threads in 1..=8 {
+        for writer in 0..threads {
+            let mut codes = vec![vec![READ]; threads];
+            codes[writer].push(WRITE);
+            let codes: Vec<&[Instruction]> = codes.iter().map(|code| &code[..]).collect();
+            let wanted: Vec<u8> = (0..threads)
+                .flat_map(|thread| {
+                    if thread == writer {
+                        vec![1, 4, 4]
+                    } else {
+                        vec![4, 4]
+                    }
+                })
+                .collect();
+            assert_eq!(judge_in(30, &file(0, &[OPEN], &codes)), Ok(wanted));
+        }
+    }
+}
+
+/// The byte of WRITE in another field than the op, or in an initial value.
+#[test]
+fn only_an_op_is_a_write() {
+    let set = Set {
+        to: 0,
+        number: 0x1111,
+    };
+    let reads_17 = Read {
+        to: 0,
+        variable: 0x11,
+    };
+    for others in [vec![set; 17], vec![reads_17; 17], vec![set, reads_17, set]] {
+        assert_eq!(read_beside(0, &[&others]), 1);
+        assert_eq!(read_beside(0x11, &[&others]), 1);
+    }
+    let open = [3, 0, 0x11, 0x11, 0x11, 0x11];
+    let file = file(0, &[open; 18], &[&[READ], &[reads_17]]);
+    assert_eq!(judge_in(4, &file), Ok(vec![1; 4]));
+}
+
+/// A WRITE of a guarded variable says nothing of an open one, nor does an own variable's.
+#[test]
+fn only_a_write_of_the_same_variable_counts() {
+    let own_to_1 = [1, 1, 0, 0, 0, 0];
+    let variables = [OPEN, GUARDED_BY_K0, own_to_1];
+    let other = [TAKE, write_of(1), GIVE, write_of(2)];
+    let file = file(1, &variables, &[&[READ], &other]);
+    assert_eq!(judge_in(20, &file), Ok(vec![1, 1, 3, 1, 2, 1, 4]));
+}
+
+/// The search meets the damage before the reading does: the first offence decides all the same.
+#[test]
+fn the_search_for_writes_alters_no_refusal_of_a_damaged_file() {
+    let block = [Atomic { distance: 4 }, READ, TAKE, GIVE, End];
+    let whole = file(1, &[OPEN], &[&block, &[WRITE, PLAIN]]);
+    let second = 13 + 4 * block.len();
+    assert_eq!(refusal(&whole), (13, second as u64 - 4));
+    for length in 0..whole.len() {
+        assert_eq!(refusal(&whole[..length]), (1, length as u64));
+    }
+    let with_length = |high: u8, low: u8| {
+        let mut file = whole.clone();
+        (file[second], file[second + 1]) = (high, low);
+        refusal(&file)
+    };
+    assert_eq!(with_length(0, 9), (4, second as u64));
+    assert_eq!(with_length(0xFF, 0xFC), (4, second as u64));
+    assert_eq!(with_length(0x10, 0), (1, whole.len() as u64));
+    assert_eq!(with_length(0, 4), (5, second as u64 + 6), "the WRITE stays");
+    assert_eq!(with_length(0, 0), (5, second as u64 + 2));
+    let wrong = [&whole[..second + 4], &[64, 0, 1, 0, 0, 0]].concat();
+    assert_eq!(refusal(&wrong), (7, second as u64 + 2), "WRITE of v64");
 }
 
 // Lists.

@@ -1,4 +1,5 @@
-//! The order of refusals ("The order of tests").
+//! The order of refusals ("The order of tests"), and whose WRITEs count for a READ of an open
+//! variable ("Rules").
 
 mod common;
 
@@ -193,6 +194,83 @@ fn the_discipline_of_each_kind() {
     assert_eq!(judged(own_to_1, &[&[read], &[]]), refused(9, 13));
     assert_eq!(judged(fixed, &[&[read], &[read]]), Ok(vec![1, 1, 1, 1]));
     assert_eq!(judged(fixed, &[&[write]]), refused(9, 13));
+}
+
+// "A WRITE counts wherever it stands in the other thread's code, reached or not; a thread's own WRITEs do not count."
+
+const READ: Instruction = Read { to: 0, variable: 0 };
+const WRITE: Instruction = Write {
+    from: 0,
+    variable: 0,
+};
+
+/// The report byte of a READ of an open variable, the first instruction of a thread, in a program
+/// of such code.
+fn read_is(thread: usize, code: &[&[Instruction]]) -> u8 {
+    let open = [3, 0, 0, 0, 0, 0];
+    let report = judge_in(100, &file(1, &[open], code)).expect("an accepted file");
+    let before: usize = code[..thread].iter().map(|code| code.len() + 1).sum();
+    assert_eq!(code[thread][0], READ);
+    report[before]
+}
+
+#[test]
+fn what_nobody_writes_is_read_as_a_both_mover() {
+    assert_eq!(read_is(0, &[&[READ]]), 1);
+    assert_eq!(read_is(0, &[&[READ], &[READ]]), 1);
+    assert_eq!(read_is(1, &[&[READ], &[READ]]), 1);
+}
+
+#[test]
+fn a_threads_own_writes_do_not_count() {
+    assert_eq!(read_is(0, &[&[READ, WRITE]]), 1);
+    assert_eq!(read_is(0, &[&[READ, WRITE], &[READ]]), 1);
+    assert_eq!(read_is(1, &[&[READ, WRITE], &[READ]]), 4, "the other's do");
+    let both = [&[READ, WRITE][..], &[READ, WRITE]];
+    assert_eq!([read_is(0, &both), read_is(1, &both)], [4, 4]);
+}
+
+#[test]
+fn an_earlier_threads_write_counts_and_a_later_ones() {
+    let third_writes = [&[READ][..], &[READ], &[READ, WRITE], &[READ]];
+    let bytes: Vec<u8> = (0..4)
+        .map(|thread| read_is(thread, &third_writes))
+        .collect();
+    assert_eq!(bytes, [4, 4, 1, 4]);
+}
+
+#[test]
+fn a_write_counts_reached_or_not() {
+    let set = Set { to: 0, number: 1 };
+    let codes: [&[Instruction]; 6] = [
+        &[WRITE],
+        &[atomic_to(2), WRITE, End],
+        // No run comes to these.
+        &[if_to(2), WRITE, else_to(1), End],
+        &[set, if_to(1), else_to(2), WRITE, End],
+        &[while_to(2), WRITE, again(2)],
+        &[set, while_to(1), again(1), WRITE],
+    ];
+    for other in codes {
+        assert_eq!(read_is(0, &[&[READ], other]), 4, "{other:?}");
+        assert_eq!(read_is(1, &[other, &[READ]]), 4, "{other:?}");
+    }
+}
+
+/// READs alone are B and compose to B, so that a block may have any number of them, in loops too.
+/// WRITE stays A.
+#[test]
+fn the_one_writers_block_may_read_often_and_write_once() {
+    let open = [3, 0, 0, 0, 0, 0];
+    let judged = |code: &[Instruction]| judge_in(30, &file(1, &[open], &[code, &[READ]]));
+    let (take, give) = (Take { lock: 0 }, Give { lock: 0 });
+    let block = [atomic_to(8), READ, take, READ, READ, WRITE, READ, give, End];
+    let with_write = vec![4, 1, 3, 1, 1, 4, 1, 2, 0, 4, 4, 4];
+    assert_eq!(judged(&block), Ok(with_write));
+    let loop_of_reads = [atomic_to(4), while_to(2), READ, again(2), End, WRITE];
+    assert_eq!(judged(&loop_of_reads), Ok(vec![1, 1, 1, 0, 0, 4, 4, 4, 4]));
+    let two_writes = [atomic_to(4), READ, WRITE, WRITE, End];
+    assert_eq!(judged(&two_writes), refused(13, 29));
 }
 
 #[test]
