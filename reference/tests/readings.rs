@@ -196,7 +196,8 @@ fn the_discipline_of_each_kind() {
     assert_eq!(judged(fixed, &[&[write]]), refused(9, 13));
 }
 
-// "A WRITE counts wherever it stands in the other thread's code, reached or not; a thread's own WRITEs do not count."
+// "A WRITE counts wherever it stands in the other thread's code, reached or not; a thread's own
+// WRITEs do not count."
 
 const READ: Instruction = Read { to: 0, variable: 0 };
 const WRITE: Instruction = Write {

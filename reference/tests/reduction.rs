@@ -7,14 +7,18 @@
 //! against the standard's wording.
 
 mod common;
+#[path = "common/plain_judge.rs"]
+#[allow(dead_code)] // the lists are for other tests too
+mod plain_judge;
 
 use std::collections::HashSet;
 
 use hogunlas_reference::generate::{self, Rng};
-use hogunlas_reference::instruction::Instruction::*;
+use hogunlas_reference::instruction::Instruction::{self, *};
 use hogunlas_reference::machine::{Outcome, State, Thread};
 use hogunlas_reference::reader::Program;
 use hogunlas_reference::{judge, Refusal};
+use plain_judge::{judged_with, Rule, EVERY_READ_IS_A, ONLY_REACHED, TOO_LENIENT};
 
 const PROGRAMS: u64 = 50_000;
 
@@ -179,11 +183,13 @@ impl Search<'_> {
     }
 }
 
-/// How many lists were tried, and how many of them interrupted a block.
+/// How many lists were tried, how many of them interrupted a block, and in how many of these the
+/// program is accepted only because READs of open variables are B.
 #[derive(Default)]
 struct Tried {
     lists: u64,
     interrupted: u64,
+    by_reads: u64,
     moves: usize,
 }
 
@@ -199,7 +205,10 @@ impl Tried {
         assert_eq!(list.len(), trial.moves.len(), "seed {seed}");
         self.lists += 1;
         self.moves += trial.moves.len();
-        self.interrupted += u64::from(run_uninterrupted(&program, &trial.moves).is_none());
+        if run_uninterrupted(&program, &trial.moves).is_none() {
+            self.interrupted += 1;
+            self.by_reads += u64::from(judged_with(EVERY_READ_IS_A, &program).is_err());
+        }
     }
 }
 
@@ -213,6 +222,7 @@ fn every_list_has_an_uninterrupted_one_with_the_same_end() {
         tried.add(&file, rng, seed);
     }
     assert!(tried.interrupted > PROGRAMS / 2, "{}", tried.interrupted);
+    assert!(tried.by_reads > PROGRAMS / 10, "{}", tried.by_reads);
     assert!(tried.moves as u64 > 10 * PROGRAMS, "{}", tried.moves);
 }
 
@@ -230,6 +240,7 @@ fn whatever_the_judge_accepts_has_uninterrupted_lists() {
     }
     assert!(tried.lists > PROGRAMS / 2, "{}", tried.lists);
     assert!(tried.interrupted > tried.lists / 3, "{}", tried.interrupted);
+    assert!(tried.by_reads > tried.lists / 10, "{}", tried.by_reads);
 }
 
 /// The search can fail: of the programs that the judge refuses by 13, some have lists that no order
@@ -254,32 +265,139 @@ fn without_the_judge_some_lists_have_no_uninterrupted_one() {
     );
 }
 
-/// Two threads each add 1 to an open variable in a block: the judge refuses it (13), and rightly,
-/// since one addition can be lost.
+/// Whether a rule accepts some program for which a list has no uninterrupted one.
+fn has_counterexample(rule: Rule) -> bool {
+    (0..4 * PROGRAMS).any(|seed| {
+        let rng = &mut Rng::new(seed);
+        let file = generate::small_disciplined_file(rng);
+        let program = Program::read(&file).unwrap();
+        if judge(&file, &mut [0; 8200]).is_ok() || judged_with(rule, &program).is_err() {
+            return false;
+        }
+        let trial = trial(&program, rng);
+        Search::find(&program, &trial).is_none()
+    })
+}
+
+/// The rules for open variables are not stricter than need be: what a more lenient one accepts can
+/// have lists without an uninterrupted one. (But a WRITE that no run comes to does no harm; that it
+/// counts spares the judge to know what is reached.)
 #[test]
-fn a_lost_update_is_refused_and_real() {
-    let block = [
+fn more_lenient_rules_are_unsound() {
+    for rule in TOO_LENIENT {
+        assert!(has_counterexample(rule), "{}", rule.name);
+    }
+    assert!(!has_counterexample(ONLY_REACHED));
+}
+
+const OPEN: [u8; 6] = [3, 0, 0, 0, 0, 0];
+const GUARDED_BY_K0: [u8; 6] = [0, 0, 0, 0, 0, 0];
+
+fn read(to: u8, variable: u8) -> Instruction {
+    Read { to, variable }
+}
+
+fn write(from: u8, variable: u8) -> Instruction {
+    Write { from, variable }
+}
+
+fn set(to: u8, number: u16) -> Instruction {
+    Set { to, number }
+}
+
+/// A program that is refused by 13 at a place of its first thread, and rightly: this list has no
+/// uninterrupted one. Answers the list's end state.
+fn refused_and_real(
+    variables: &[[u8; 6]],
+    code: &[&[Instruction]],
+    place: usize,
+    list: &[u8],
+) -> State {
+    let file = common::file(1, variables, code);
+    let detail = (5 + 6 * variables.len() + 2 + 4 * place) as u64;
+    let refusal = common::refused(13, detail);
+    assert_eq!(common::judge_in(99, &file), refusal);
+    let program = Program::read(&file).unwrap();
+    let trial = cut_into_units(&program, list);
+    assert_eq!(trial.moves, list, "every entry moves");
+    assert_eq!(Search::find(&program, &trial), None);
+    trial.end
+}
+
+/// The one writer's block writes twice, and a reader sees what stands between: WRITE is A although
+/// no other thread writes.
+#[test]
+fn a_value_of_the_one_writer_that_never_stood_outside_its_block_is_seen() {
+    let writer = [
         Atomic { distance: 5 },
-        Read { to: 0, variable: 0 },
-        Set { to: 1, number: 1 },
-        Add {
-            to: 0,
-            left: 0,
-            right: 1,
-        },
-        Write {
-            from: 0,
-            variable: 0,
-        },
+        set(0, 1),
+        write(0, 0),
+        set(0, 2),
+        write(0, 0),
         End,
     ];
-    let file = common::file(0, &[[3, 0, 0, 0, 0, 0]], &[&block, &block]);
-    let (number, detail) = (13, 33);
-    assert_eq!(judge(&file, &mut [0; 99]), Err(Refusal { number, detail }));
+    let list = [0, 0, 0, 1, 0, 0, 0];
+    let end = refused_and_real(&[OPEN], &[&writer, &[read(3, 0)]], 5, &list);
+    assert_eq!(end.threads[1].registers[3], 1);
+    assert_eq!(end.variables[0], 2);
+}
+
+/// A block of READ open, TAKE, READ guarded, GIVE sees v0 before the other thread's WRITE and v1
+/// after its critical section, which comes later.
+#[test]
+fn a_read_of_what_another_thread_writes_does_not_move_behind_it() {
+    let block = [
+        Atomic { distance: 5 },
+        read(2, 0),
+        Take { lock: 0 },
+        read(3, 1),
+        Give { lock: 0 },
+        End,
+    ];
+    let other = [
+        set(0, 1),
+        write(0, 0),
+        Take { lock: 0 },
+        write(0, 1),
+        Give { lock: 0 },
+    ];
+    let variables = [OPEN, GUARDED_BY_K0];
+    let list = [0, 0, 1, 1, 1, 1, 1, 0, 0, 0, 0];
+    let end = refused_and_real(&variables, &[&block, &other], 5, &list);
+    assert_eq!(end.threads[0].registers[2..4], [0, 1]);
+    // Where nobody else writes v0, the block is A, and this list has an uninterrupted one.
+    let other = [set(0, 1), Take { lock: 0 }, write(0, 1), Give { lock: 0 }];
+    let file = common::file(1, &variables, &[&block, &other]);
+    assert!(common::judge_in(99, &file).is_ok());
     let program = Program::read(&file).unwrap();
-    let trial = cut_into_units(&program, &[0, 1, 0, 1, 0, 1, 0, 1, 0, 1, 0, 1]);
-    assert_eq!(trial.end.variables[0], 1, "one addition is lost");
-    assert_eq!(Search::find(&program, &trial), None);
+    let trial = cut_into_units(&program, &[0, 0, 1, 1, 1, 1, 0, 0, 0, 0]);
+    assert_eq!(trial.end.threads[0].registers[2..4], [0, 1]);
+    let found = Search::find(&program, &trial);
+    assert_eq!(found, Some(vec![1, 1, 1, 1, 0, 0, 0, 0, 0, 0]));
+}
+
+/// Two threads each add 1 to an open variable in a block: the judge refuses it (13), and rightly,
+/// since one addition can be lost. If one thread alone does so, it is accepted.
+#[test]
+fn a_lost_update_is_refused_and_real() {
+    let add = Add {
+        to: 0,
+        left: 0,
+        right: 1,
+    };
+    let block = [
+        Atomic { distance: 5 },
+        read(0, 0),
+        set(1, 1),
+        add,
+        write(0, 0),
+        End,
+    ];
+    let list = [0, 1, 0, 1, 0, 1, 0, 1, 0, 1, 0, 1];
+    let end = refused_and_real(&[OPEN], &[&block, &block], 5, &list);
+    assert_eq!(end.variables[0], 1, "one addition is lost");
+    let file = common::file(1, &[OPEN], &[&block, &block]);
+    let program = Program::read(&file).unwrap();
     for list in [
         [0, 0, 0, 0, 0, 0, 1, 1, 1, 1, 1, 1],
         [1, 1, 1, 1, 1, 1, 0, 0, 0, 0, 0, 0],
@@ -287,4 +405,7 @@ fn a_lost_update_is_refused_and_real() {
         let end = run_uninterrupted(&program, &list).unwrap();
         assert_eq!(end.variables[0], 2);
     }
+    let one_adds = common::file(1, &[OPEN], &[&block, &[read(0, 0), read(1, 0)]]);
+    let report = common::judge_in(99, &one_adds);
+    assert_eq!(report, Ok(vec![4, 1, 1, 1, 4, 0, 4, 4, 4, 5]));
 }

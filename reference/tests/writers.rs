@@ -14,7 +14,10 @@ use hogunlas_reference::instruction::Instruction::Read;
 use hogunlas_reference::machine::is_inside;
 use hogunlas_reference::reader::{Kind, Program};
 use hogunlas_reference::Refusal;
-use plain_judge::{judged_with, writers, Rule, Writer, RIGHT, TOO_LENIENT, TOO_STRICT};
+use plain_judge::{
+    judged_with, writers, Rule, Writer, EVERY_READ_IS_A, ONLY_REACHED, RIGHT, TOO_LENIENT,
+    TOO_STRICT,
+};
 
 const FILES: u64 = 20_000;
 
@@ -51,28 +54,34 @@ impl Told {
     }
 }
 
-#[test]
-fn generated_files_tell_the_wrong_rules() {
-    let rules = TOO_STRICT.into_iter().chain(TOO_LENIENT);
-    let mut told: Vec<(Rule, Told)> = rules.map(|rule| (rule, Told::default())).collect();
+/// What files tell of these rules.
+fn told_of(rules: &[Rule]) -> Vec<Told> {
+    let mut told: Vec<Told> = rules.iter().map(|_| Told::default()).collect();
     each_sound_file(|program, right| {
-        for (rule, told) in &mut told {
+        for (rule, told) in rules.iter().zip(&mut told) {
             told.add(right, &judged_with(*rule, program));
         }
     });
-    for (index, (rule, told)) in told.iter().enumerate() {
+    rules.iter().zip(&told).for_each(|(rule, told)| {
         println!("{}: {told:?}", rule.name);
-        let (decided, never) = if index < TOO_STRICT.len() {
-            (told.refused, told.accepted)
-        } else {
-            (told.accepted, told.refused)
-        };
-        assert!(
-            told.reported >= 500 && decided >= 50,
-            "{}: {told:?}",
-            rule.name
-        );
-        assert_eq!(never, 0, "{}: {told:?}", rule.name);
+        assert!(told.reported >= 500, "{}: {told:?}", rule.name);
+    });
+    told
+}
+
+#[test]
+fn generated_files_tell_the_rules_that_are_too_strict() {
+    let rules = [&TOO_STRICT[..], &[EVERY_READ_IS_A]].concat();
+    for told in told_of(&rules) {
+        assert!(told.refused >= 500 && told.accepted == 0, "{told:?}");
+    }
+}
+
+#[test]
+fn generated_files_tell_the_rules_that_are_too_lenient() {
+    let rules = [&TOO_LENIENT[..], &[ONLY_REACHED]].concat();
+    for told in told_of(&rules) {
+        assert!(told.accepted >= 50 && told.refused == 0, "{told:?}");
     }
 }
 

@@ -36,13 +36,24 @@ pub const RIGHT: Rule = Rule {
     write_is_b: |_, _| false,
 };
 
-/// Refuse blocks that are not T: they make too many READs A.
-pub const TOO_STRICT: [Rule; 3] = [
-    Rule {
-        name: "every READ is A",
-        read_is_b: |_, _| false,
-        ..RIGHT
+/// What the rule was in the standard's version 1.0.
+pub const EVERY_READ_IS_A: Rule = Rule {
+    name: "every READ is A",
+    read_is_b: |_, _| false,
+    ..RIGHT
+};
+
+pub const ONLY_REACHED: Rule = Rule {
+    name: "only reached WRITEs count",
+    read_is_b: |writers, thread| {
+        let mut reached = writers.iter().filter(|writer| writer.reached);
+        reached.all(|writer| writer.thread == thread)
     },
+    ..RIGHT
+};
+
+/// Make too many READs A, and so refuse blocks that are accepted.
+pub const TOO_STRICT: [Rule; 2] = [
     Rule {
         name: "a thread's own WRITEs count",
         read_is_b: |writers, _| writers.is_empty(),
@@ -55,8 +66,8 @@ pub const TOO_STRICT: [Rule; 3] = [
     },
 ];
 
-/// Accept blocks that are T: they make too many accesses B.
-pub const TOO_LENIENT: [Rule; 6] = [
+/// Make too many accesses B, and so accept blocks of which lists have no uninterrupted one.
+pub const TOO_LENIENT: [Rule; 5] = [
     Rule {
         name: "only earlier threads count",
         read_is_b: |writers, thread| writers.iter().all(|writer| writer.thread >= thread),
@@ -65,14 +76,6 @@ pub const TOO_LENIENT: [Rule; 6] = [
     Rule {
         name: "only later threads count",
         read_is_b: |writers, thread| writers.iter().all(|writer| writer.thread <= thread),
-        ..RIGHT
-    },
-    Rule {
-        name: "only reached WRITEs count",
-        read_is_b: |writers, thread| {
-            let mut reached = writers.iter().filter(|writer| writer.reached);
-            reached.all(|writer| writer.thread == thread)
-        },
         ..RIGHT
     },
     Rule {
