@@ -22,9 +22,10 @@ use program::{Source, Style};
 /// A file of any kind.
 pub fn file(rng: &mut Rng) -> Vec<u8> {
     match rng.below(100) {
-        0..=14 => sound_file(rng),
-        15..=24 => disciplined_file(rng),
-        25..=49 => accepted_file(rng),
+        0..=9 => sound_file(rng),
+        10..=19 => disciplined_file(rng),
+        20..=29 => small_disciplined_file(rng),
+        30..=49 => accepted_file(rng),
         50..=84 => nearly_accepted_file(rng),
         85..=98 => damaged_file(rng),
         _ => limit_file(rng),

@@ -9,6 +9,7 @@ const INSTRUCTIONS: usize = 1_024;
 const MAX_OPEN: usize = 16;
 
 const GUARDED_BY_K0: [u8; 6] = [0, 0, 0, 0, 0, 7];
+const OPEN: [u8; 6] = [3, 0, 0, 0, 0, 7];
 
 /// A file of 16 locks with 64 variables, all guarded by k0.
 fn file(code: &[Vec<Instruction>]) -> Vec<u8> {
@@ -35,6 +36,37 @@ fn reads(instructions: usize) -> Vec<Instruction> {
 
 pub fn guarded_reads() -> Vec<u8> {
     largest(reads(INSTRUCTIONS))
+}
+
+/// READs of 64 open variables. Each thread writes 8 of them alone, at the beginning of its code;
+/// mostly it reads these (B), and at every eighth place any (A, if another thread's).
+pub fn open_reads() -> Vec<u8> {
+    let threads: Vec<Vec<Instruction>> = (0..THREADS).map(open_reads_of).collect();
+    let file = encode_file(16, &[OPEN; 64], &threads);
+    assert_eq!(file.len(), hogunlas::MAX_FILE);
+    file
+}
+
+fn open_reads_of(thread: usize) -> Vec<Instruction> {
+    let own = |place: usize| (thread + place % 8 * THREADS) as u8;
+    let access = |place: usize| {
+        let (to, from) = ((place % 8) as u8, 0);
+        match place {
+            0..8 => Write {
+                from,
+                variable: own(place),
+            },
+            _ if place % 8 == 0 => Read {
+                to,
+                variable: (place / 8 % 64) as u8,
+            },
+            _ => Read {
+                to,
+                variable: own(place),
+            },
+        }
+    };
+    (0..INSTRUCTIONS).map(access).collect()
 }
 
 /// One thread of so many instructions.

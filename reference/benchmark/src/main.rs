@@ -13,7 +13,7 @@ mod times;
 /// What the numbers are, and what the verified library is measured against.
 const HEADER: &str = "\
 verified: the compiled library target/staticlib/libhogunlas.a, and the program target/bin/bench
-reimplementation: the crate in reference/ of this repository, safe Rust, one pass over each thread's code
+reimplementation: the crate in reference/ of this repository, safe Rust, one pass over each thread's code after a search for WRITEs
 All rows are of one run, in which the two sides take turns; each number is a median, the ratio that of
 the medians. judge, run and line: the call alone, its buffer cleared before. bench: start to end.
 

@@ -54,6 +54,7 @@ fn judge_row(what: &str, files: &[Vec<u8>]) {
 
 pub fn judge_rows() {
     judge_row("guarded READs", &[files::guarded_reads()]);
+    judge_row("open READs", &[files::open_reads()]);
     judge_row("openers and closers, flat", &[files::flat_constructs()]);
     judge_row(
         "openers and closers, 16 deep",
