@@ -37,8 +37,8 @@ fn is_t(answer: &Result<Vec<u8>, Refusal>) -> bool {
     matches!(answer, Err(refusal) if refusal.number == Refusal::BLOCK_IS_T)
 }
 
-/// How often a wrong rule refused what is accepted by 13, accepted what is refused by 13, and
-/// reported otherwise on what both accept.
+/// How often a wrong rule refuses by 13 what is accepted, accepts what is refused by 13, and reports
+/// otherwise on what both accept.
 #[derive(Debug, Default)]
 struct Told {
     refused: u32,

@@ -48,22 +48,14 @@ pub fn open_reads() -> Vec<u8> {
 }
 
 fn open_reads_of(thread: usize) -> Vec<Instruction> {
-    let own = |place: usize| (thread + place % 8 * THREADS) as u8;
+    let own = |column: usize| (thread + column * THREADS) as u8;
     let access = |place: usize| {
         let (to, from) = ((place % 8) as u8, 0);
-        match place {
-            0..8 => Write {
-                from,
-                variable: own(place),
-            },
-            _ if place % 8 == 0 => Read {
-                to,
-                variable: (place / 8 % 64) as u8,
-            },
-            _ => Read {
-                to,
-                variable: own(place),
-            },
+        let (variable, any) = (own(place % 8), (place / 8 % 64) as u8);
+        match (place / 8, place % 8) {
+            (0, _) => Write { from, variable },
+            (_, 0) => Read { to, variable: any },
+            _ => Read { to, variable },
         }
     };
     (0..INSTRUCTIONS).map(access).collect()
