@@ -6,6 +6,8 @@ use hogunlas_reference::report_length;
 
 use crate::support::{lend, Tally};
 
+/// `reference/tests/writers.rs` shows which wrong rules the first of these files tell from the
+/// right ones.
 const FILES: u64 = 100_000;
 
 /// Compares one call, and answers what both said.
