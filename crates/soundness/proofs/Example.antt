@@ -1,7 +1,11 @@
--- Demand 3 is not empty: its premises hold of a file and a list that interleaves two blocks. Computed. Assumes nothing.
---     adders-sum           after the list both threads have added 1
---     adders-interrupted   the premises hold, and the list is not itself the one that is promised
---     adders-serialized    the list that is promised is another
+-- Demand 3 is not empty: its premises hold of two files, each with a list that interleaves two blocks. Computed. Assumes nothing.
+--     adders-sum                            after the list both threads have added 1
+--     adders-interrupted, frame-interrupted the premises hold, and the list is not itself the one that is promised
+--     serialized-other                      the list that is promised is another
+--     frame-report                          thread 0's READ of the variable that it alone writes is B, and so its block, which begins with
+--                                           it and takes a lock later, is A
+--     frame-seen                            after the list thread 1 has seen the frame before
+--     second-writer-refused                 with a second writer thread 0's block, the same code, is refused with 13
 use Prim.Native.Nat.{ℕ, zero, suc, _<_}
 use native.Mathlib.Omega.{arith}
 use mathlib.Core.Path.{_≡_, refl, subst}
@@ -12,18 +16,20 @@ use lib.ListN.{length, getD}
 use lib.Dec.{T, ltb, ltb→lt, lit<}
 use mir.Facts.{and-yes}
 use Rattle.program.proofs.Differ.{differ}
-use Rattle.program.specs.Answer.{fine}
+use Rattle.program.specs.Answer.{fine, refused}
+use Rattle.program.specs.declared.refusal.Refusal.the-variants.{NotAtomic}
 use Rattle.judge.specs.Acceptance.{accept}
 use Rattle.judge.proofs.Definitions.{judging-definitions}
 use Rattle.machine.specs.Run.{run}
+use Rattle.machine.specs.State.{threadOf}
 use Rattle.machine.specs.Block.{NobodyInside, Uninterrupted}
 use Rattle.machine.proofs.Definitions.{running-definitions}
 use Rattle.soundness.specs.Demand.{ThreadsOf, Serialized}
-use Rattle.soundness.specs.Internal.Example.{adder, adders, interleaving, Interrupted, acceptedOf}
+use Rattle.soundness.specs.Internal.Example.{adder, adders, interleaving, counter, reader, frame, secondWriter, frameList, frameReport, Interrupted, acceptedOf}
 
 -- all definitions open
 unfoldable definitions : Unit {0}
-unfolding judging-definitions running-definitions adder adders interleaving acceptedOf
+unfolding judging-definitions running-definitions adder adders interleaving counter reader frame secondWriter frameList acceptedOf
 definitions = tt
 
 -- each entry is below n
@@ -69,6 +75,53 @@ adders-interrupted = record {
   interrupted = adders-uninterrupted;
 }
 
+-- ---- the variable that one thread writes
+
+pub frame-report : acceptedOf (accept frame) .report ≡ frameReport
+unfolding definitions
+frame-report = refl
+
+frame-accepted : accept frame ≡ fine (acceptedOf (accept frame))
+unfolding definitions
+frame-accepted = refl
+
+frame-threads : ThreadsOf (acceptedOf (accept frame) .program) frameList
+unfolding definitions
+frame-threads = all-below 2 frameList tt
+
+frame-nobody : NobodyInside (acceptedOf (accept frame) .program) (run (acceptedOf (accept frame) .program) frameList .state)
+unfolding definitions
+frame-nobody zero h = refl
+frame-nobody (suc zero) h = refl
+frame-nobody (suc (suc u)) h = absurd (omega arith)
+
+-- thread 1 moves while thread 0 stands inside its block
+frame-uninterrupted : Uninterrupted (acceptedOf (accept frame) .program) frameList → ⊥
+unfolding definitions
+frame-uninterrupted h = let e : true ≡ false = h .2 .2 .1 0 (lit< tt) (λ e. omega arith) in differ cc
+
+pub frame-interrupted : Interrupted frame frameList
+frame-interrupted = record {
+  answer = acceptedOf (accept frame);
+  accepted = frame-accepted;
+  threads = frame-threads;
+  nobody = frame-nobody;
+  interrupted = frame-uninterrupted;
+}
+
+-- v0 and v1 have the new frame's number; thread 1 has the old one's in r0 and r1
+pub frame-seen : (run (acceptedOf (accept frame) .program) frameList .state .variables ≡ 8 ∷ 8 ∷ [])
+    × (threadOf (run (acceptedOf (accept frame) .program) frameList .state) 1 .registers ≡ 7 ∷ 7 ∷ 0 ∷ 0 ∷ 0 ∷ 0 ∷ 0 ∷ 0 ∷ [])
+unfolding definitions
+frame-seen = (refl, refl)
+
+-- "the file would be refused with 13", at the END of thread 0's block
+pub second-writer-refused : accept secondWriter ≡ refused (NotAtomic 51)
+unfolding definitions
+second-writer-refused = refl
+
+-- ---- what is promised
+
 -- the list that demand 3 promises is another
-pub adders-serialized : (r : Serialized (adders-interrupted .answer .program) interleaving) → r .serial ≢ interleaving
-adders-serialized r e = adders-interrupted .interrupted (subst (Uninterrupted (adders-interrupted .answer .program)) e (r .uninterrupted))
+pub serialized-other : (file list : List ℕ) (x : Interrupted file list) (r : Serialized (x .answer .program) list) → r .serial ≢ list
+serialized-other file list x r e = x .interrupted (subst (Uninterrupted (x .answer .program)) e (r .uninterrupted))

@@ -167,8 +167,7 @@ either-writes : (p : Program) (t u v : ℕ) (w w′ : Bool) → u ≢ t → (w |
 either-writes p t u v true w′ n o has = refl
 either-writes p t u v false w′ n o has = written-by p t u v n (has o)
 
--- and two accesses that are A do not swap
-
+-- two accesses that are A do not swap
 atomic-swaps : Swaps atomicity.Atomic atomicity.Atomic → ⊥
 unfolding atMost
 atomic-swaps (right-first h) = h
@@ -212,7 +211,8 @@ module _ (p : Program) {t u : ℕ} (different : t ≢ u) {s s′ : LockSet} {ks 
   -- ---- all pairs
 
   pub independent : (x y : Access) → Permitted p t s x → Permitted p u s′ y → AccessBelow (length ks) (length (p .variables)) x
-      → StandsIn (codeOf p t) x → StandsIn (codeOf p u) y → waits x ks ≡ false → waits y (locksAfter x t ks) ≡ false → Swaps (accessMover p t s x) (accessMover p u s′ y) → Independent x y
+      → StandsIn (codeOf p t) x → StandsIn (codeOf p u) y → waits x ks ≡ false → waits y (locksAfter x t ks) ≡ false
+      → Swaps (accessMover p t s x) (accessMover p u s′ y) → Independent x y
   unfolding accessMover
   independent none y h h′ b i i′ f f′ m = independent-none y
   independent (reads v) none h h′ b i i′ f f′ m = independent-sym (independent-none (reads v))

@@ -1,5 +1,5 @@
 -- What only the proof of demand 3 speaks of.
---     Example      a file and a list of which demand 3 says something
+--     Example      files and lists of which demand 3 says something
 --     Prefix       where a place stands in its block
 --     Places       a list read place by place
 --     Labelled     code with a label at each instruction, and its moves from label to label
