@@ -394,6 +394,22 @@ fn empty_cases() -> String {
     .concat()
 }
 
+/// What `crates/cases` prints of a READ of an open variable and WRITEs of it.
+fn writers() -> String {
+    let not_reached = choice(&[WRITE], &[]);
+    let of = |name, codes: &[&[Instruction]]| {
+        let name = format!("READ with {name}");
+        judged(&name, judge_in(100, &file(0, &[OPEN], codes)))
+    };
+    [
+        of("an own WRITE", &[&[READ, WRITE]]),
+        of("a WRITE in the next thread", &[&[READ], &[WRITE]]),
+        of("a WRITE in the thread before", &[&[WRITE], &[READ]]),
+        of("a WRITE that is not reached", &[&[READ], &not_reached]),
+    ]
+    .concat()
+}
+
 /// A thread at place 6 with 3 in r0 and 5 in r1 after a step of this code, where v0 is 9.
 fn moved(name: &str, code: &[Instruction]) -> String {
     let file = file(1, &[[2, 0, 0, 0, 0, 9]], &[code]);
@@ -466,6 +482,7 @@ fn the_test_program_prints_these_answers() {
             GUARDED_BY_K0,
             &else_reads,
         ),
+        writers(),
         moves(),
     ];
     let stdout = include_str!("../../crates/cases/stdout");
