@@ -19,12 +19,20 @@ use atomicity::Atomicity;
 // A;A is T: each WRITE of an open variable is A, the thread T, and a block of both is refused.
 pub fn atomic_then_atomic() {
     code::judge(b"A;A: ", OPEN, &[WRITE, WRITE]);
-    code::judge(b"A;A in a block: ", OPEN, &[atomic_to(3), WRITE, WRITE, END]);
+    code::judge(
+        b"A;A in a block: ",
+        OPEN,
+        &[atomic_to(3), WRITE, WRITE, END],
+    );
 }
 
 // The closure of A is T.
 pub fn closure_of_atomic() {
-    code::judge(b"WHILE around A: ", OPEN, &[while_to(2), WRITE, again_to(2)]);
+    code::judge(
+        b"WHILE around A: ",
+        OPEN,
+        &[while_to(2), WRITE, again_to(2)],
+    );
     let code = [atomic_to(4), while_to(2), WRITE, again_to(2), END];
     code::judge(b"WHILE around A in a block: ", OPEN, &code);
 }
@@ -44,25 +52,16 @@ pub fn locks_of_the_then_part() {
 }
 
 // A READ of an open variable is A only because another thread has a WRITE of it: a thread's own does not count, and one before, one
-// behind and one that is not reached do.
+// behind and one that is not reached do. No lock, and in each thread READ r2 v0 or WRITE r2 v0; that which is not reached stands behind IF r0 2.
 pub fn writers_of_an_open_variable() {
     code::judge(b"READ with an own WRITE: ", OPEN, &[READ, WRITE]);
-    show::judge(b"READ with a WRITE in the next thread: ", &WRITER_BEHIND);
-    show::judge(b"READ with a WRITE in the thread before: ", &WRITER_BEFORE);
-    show::judge(b"READ with a WRITE that is not reached: ", &WRITE_NOT_REACHED);
+    let behind =
+        b"\x01\x00\x02\x00\x06\x03\x00\x00\x00\x00\x05\x00\x04\x10\x02\x00\x00\x00\x04\x11\x02\x00\x00";
+    show::judge(b"READ with a WRITE in the next thread: ", behind);
+    let before =
+        b"\x01\x00\x02\x00\x06\x03\x00\x00\x00\x00\x05\x00\x04\x11\x02\x00\x00\x00\x04\x10\x02\x00\x00";
+    show::judge(b"READ with a WRITE in the thread before: ", before);
+    let not_reached =
+        b"\x01\x00\x02\x00\x06\x03\x00\x00\x00\x00\x05\x00\x04\x10\x02\x00\x00\x00\x10\x30\x00\x00\x02\x11\x02\x00\x00\x31\x00\x00\x01\x35\x00\x00\x00";
+    show::judge(b"READ with a WRITE that is not reached: ", not_reached);
 }
-
-// Version 1, no lock, two threads, an open variable; READ r2 v0 in one thread, WRITE r2 v0 in the other.
-const WRITER_BEHIND: [u8; 23] = [
-    1, 0, 2, 0, 6, 3, 0, 0, 0, 0, 5, 0, 4, 0x10, 2, 0, 0, 0, 4, 0x11, 2, 0, 0,
-];
-
-const WRITER_BEFORE: [u8; 23] = [
-    1, 0, 2, 0, 6, 3, 0, 0, 0, 0, 5, 0, 4, 0x11, 2, 0, 0, 0, 4, 0x10, 2, 0, 0,
-];
-
-// Thread 1: IF r0 2, WRITE r2 v0, ELSE 1, END.
-const WRITE_NOT_REACHED: [u8; 35] = [
-    1, 0, 2, 0, 6, 3, 0, 0, 0, 0, 5, 0, 4, 0x10, 2, 0, 0, 0, 16, 0x30, 0, 0, 2, 0x11, 2, 0, 0, 0x31,
-    0, 0, 1, 0x35, 0, 0, 0,
-];

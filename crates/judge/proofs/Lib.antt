@@ -12,6 +12,7 @@
 --     CodeLoop        the loop over the codes
 --     Accepting       from the scan to what judging a file answers
 --     Legal           the lock discipline of judging is that of the rules
+--     Races           two threads' accesses of one variable, one of them a WRITE, are A
 --     Rules, RulesProgram, RulesFile
 --                     judging code, a program and a file is deriving by the rules
 pub mod Definitions
@@ -27,6 +28,7 @@ pub mod ScanLoop
 pub mod CodeLoop
 pub mod Accepting
 pub mod Legal
+pub mod Races
 pub mod Rules
 pub mod RulesProgram
 pub mod RulesFile

@@ -3,7 +3,6 @@
 use Prim.Native.Nat.{ℕ, _+_, _<_}
 use native.Mathlib.Decide.{ℕ-discrete}
 use native.Mathlib.Omega.{arith}
-use borrow.Author.Tests.{eqb-true}
 use mathlib.Core.Path.{_≡_, refl, sym, ap, _∙_, subst, subst₂}
 use mathlib.Core.Logic.{_≢_, Ne·symm, dite}
 use mathlib.Core.Bool.{Bool, true, false, not, _||_, or-comm}
@@ -13,18 +12,16 @@ use lib.Seq.{getD-set-same, getD-set-other, set-comm}
 use lib.Dec.{eqb}
 use Rattle.atomicity.specs.Atomicity.{atMost}
 use Rattle.atomicity.specs.declared.Atomicity.the-variants as atomicity
+use Rattle.judge.proofs.Races.{race-atomic}
 use Rattle.judge.specs.Discipline.{kindAt, permits, accessAtomicity, accessMover}
 use Rattle.judge.specs.LockSet.{holds}
 use Rattle.judge.specs.declared.lock_set.LockSet.{LockSet}
 use Rattle.program.proofs.Differ.{differ}
-use Rattle.program.proofs.Writers.{written-by}
 use Rattle.program.specs.View.{Access, none, reads, writes, takes, gives}
 use Rattle.machine.specs.Step.{waits, valueRead, variablesAfter, locksAfter}
 use Rattle.program.specs.Layout.{Program, codeOf}
-use Rattle.program.specs.Writers.{hasWrite, writtenByOther}
+use Rattle.program.specs.Writers.{hasWrite}
 use Rattle.program.specs.Internal.Sound.{AccessBelow}
-use Rattle.program.specs.declared.variable.Kind.{Kind}
-use Rattle.program.specs.declared.variable.Kind.the-variants.{Guarded, Own, Fixed, Open}
 use Rattle.soundness.specs.Internal.Access.{Permitted, read-permitted, write-permitted, give-permitted, StandsIn, Owns, NoLock, NoVariable, Independent, Swaps, right-first, left-second}
 use Rattle.soundness.proofs.Owns.{take-free}
 
@@ -144,29 +141,6 @@ give-give k l n =
 
 -- ---- why the others cannot be
 
--- a variable that two threads may access, one of them writing, is open
-conflict : (k : Kind) {t u : ℕ} (s s′ : LockSet) (w w′ : Bool) → t ≢ u → ((l : ℕ) → holds s l ≡ true → holds s′ l ≡ true → ⊥)
-    → permits k t s w ≡ true → permits k u s′ w′ ≡ true → (w || w′) ≡ true → k ≡ Open
-unfolding permits
-conflict (Guarded g) s s′ a b n excl h h′ e = absurd (excl g h h′)
-conflict (Own g) {t} {u} s s′ a b n excl h h′ e = absurd (n (sym (eqb-true g t h) ∙ eqb-true g u h′))
-conflict Fixed s s′ true b n excl h h′ e = differ cc
-conflict Fixed s s′ false true n excl h h′ e = differ cc
-conflict Fixed s s′ false false n excl h h′ e = differ cc
-conflict Open s s′ a b n excl h h′ e = refl
-
--- an access of an open variable that is a WRITE, or that another thread writes, is A
-open-atomic : (p : Program) (t v : ℕ) (w : Bool) → kindAt p v ≡ Open → (w || writtenByOther p t v) ≡ true
-    → accessAtomicity p t v w ≡ atomicity.Atomic
-unfolding accessAtomicity
-open-atomic p t v w e o = rw (e, accessAtomicity, o)
-
--- of two accesses of one variable, one of them a WRITE, each is a WRITE, or the other thread writes the variable
-either-writes : (p : Program) (t u v : ℕ) (w w′ : Bool) → u ≢ t → (w || w′) ≡ true → (w′ ≡ true → hasWrite v (codeOf p u) ≡ true)
-    → (w || writtenByOther p t v) ≡ true
-either-writes p t u v true w′ n o has = refl
-either-writes p t u v false w′ n o has = written-by p t u v n (has o)
-
 -- two accesses that are A do not swap
 atomic-swaps : Swaps atomicity.Atomic atomicity.Atomic → ⊥
 unfolding atMost
@@ -185,15 +159,18 @@ module _ (p : Program) {t u : ℕ} (different : t ≢ u) {s s′ : LockSet} {ks 
   exclusive l h h′ = different (omega (arith, mine .owner l h, yours .owner l h′))
 
   -- two accesses of one variable, one of them a WRITE, do not swap
-  no-race : (v v′ : ℕ) (w w′ : Bool) → v ≡ v′ → (w || w′) ≡ true → permits (kindAt p v) t s w ≡ true → permits (kindAt p v′) u s′ w′ ≡ true
-      → (w ≡ true → hasWrite v (codeOf p t) ≡ true) → (w′ ≡ true → hasWrite v′ (codeOf p u) ≡ true)
+  no-race : (v v′ : ℕ) (w w′ : Bool) → v ≡ v′ → (w || w′) ≡ true → permits (kindAt p v) t s w ≡ true → (w ≡ true → hasWrite v (codeOf p t) ≡ true)
+      → permits (kindAt p v′) u s′ w′ ≡ true → (w′ ≡ true → hasWrite v′ (codeOf p u) ≡ true)
       → Swaps (accessAtomicity p t v w) (accessAtomicity p u v′ w′) → ⊥
-  no-race v v′ w w′ same o h h′ has has′ m =
-      let e = conflict (kindAt p v) s s′ w w′ different exclusive h (subst (λ (x : ℕ). permits (kindAt p x) u s′ w′ ≡ true) (sym same) h′) o in
-      let first = either-writes p t u v w w′ (Ne·symm different) o (λ z. subst (λ (x : ℕ). hasWrite x (codeOf p u) ≡ true) (sym same) (has′ z)) in
-      let second = either-writes p u t v′ w′ w different (or-comm w′ w ∙ o) (λ z. subst (λ (x : ℕ). hasWrite x (codeOf p t) ≡ true) same (has z)) in
+  no-race v v′ w w′ same o h has =
+      subst
+      (λ (x : ℕ). permits (kindAt p x) u s′ w′ ≡ true → (w′ ≡ true → hasWrite x (codeOf p u) ≡ true)
+      → Swaps (accessAtomicity p t v w) (accessAtomicity p u x w′) → ⊥)
+      same
+      (λ h′ has′ m.
       atomic-swaps
-      (subst₂ Swaps (open-atomic p t v w e first) (open-atomic p u v′ w′ (subst (λ (x : ℕ). kindAt p x ≡ Open) same e) second) m)
+      (subst₂ Swaps (race-atomic different s s′ exclusive p v w w′ o h h′ has′)
+      (race-atomic (Ne·symm different) s′ s (λ l i j. exclusive l j i) p v w′ w (or-comm w′ w ∙ o) h′ h has) m))
 
   -- a lock just taken is not taken again
   taken-twice : {k l : ℕ} → k ≡ l → k < length ks → waits (takes l) (locksAfter (takes k) t ks) ≡ false → ⊥
@@ -218,14 +195,14 @@ module _ (p : Program) {t u : ℕ} (different : t ≢ u) {s s′ : LockSet} {ks 
   independent (reads v) none h h′ b i i′ f f′ m = independent-sym (independent-none (reads v))
   independent (reads v) (reads w) h h′ b i i′ f f′ m = read-read v w
   independent (reads v) (writes w c) (read-permitted h) (write-permitted h′) b i i′ f f′ m =
-      dite (ℕ-discrete v w) (λ e. absurd (no-race v w false true e refl h h′ (λ z. differ cc) (λ z. i′ w c refl) m)) (λ n. read-write v w c n)
+      dite (ℕ-discrete v w) (λ e. absurd (no-race v w false true e refl h (λ z. differ cc) h′ (λ z. i′ w c refl) m)) (λ n. read-write v w c n)
   independent (reads v) (takes l) h h′ b i i′ f f′ m = variable-lock (read-no-lock v) (take-no-variable l)
   independent (reads v) (gives l) h h′ b i i′ f f′ m = variable-lock (read-no-lock v) (give-no-variable l)
   independent (writes v a) none h h′ b i i′ f f′ m = independent-sym (independent-none (writes v a))
   independent (writes v a) (reads w) (write-permitted h) (read-permitted h′) b i i′ f f′ m =
-      dite (ℕ-discrete v w) (λ e. absurd (no-race v w true false e refl h h′ (λ z. i v a refl) (λ z. differ cc) m)) (λ n. independent-sym (read-write w v a (Ne·symm n)))
+      dite (ℕ-discrete v w) (λ e. absurd (no-race v w true false e refl h (λ z. i v a refl) h′ (λ z. differ cc) m)) (λ n. independent-sym (read-write w v a (Ne·symm n)))
   independent (writes v a) (writes w c) (write-permitted h) (write-permitted h′) b i i′ f f′ m =
-      dite (ℕ-discrete v w) (λ e. absurd (no-race v w true true e refl h h′ (λ z. i v a refl) (λ z. i′ w c refl) m)) (λ n. write-write v a w c n)
+      dite (ℕ-discrete v w) (λ e. absurd (no-race v w true true e refl h (λ z. i v a refl) h′ (λ z. i′ w c refl) m)) (λ n. write-write v a w c n)
   independent (writes v a) (takes l) h h′ b i i′ f f′ m = variable-lock (write-no-lock v a) (take-no-variable l)
   independent (writes v a) (gives l) h h′ b i i′ f f′ m = variable-lock (write-no-lock v a) (give-no-variable l)
   independent (takes k) none h h′ b i i′ f f′ m = independent-sym (independent-none (takes k))

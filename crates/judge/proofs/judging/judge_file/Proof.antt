@@ -28,9 +28,12 @@ find-sections-requires c κs = (sound-file (c .before .before .before .before .b
 -- `let verdict = walk_codes(rows, file, l, &*starts, &*counts, &writers, &mut *report)`
 walk-codes-requires : tie.Need-walk-codes-requires
 walk-codes-requires c κs =
-    let start = c .before .before .before .before .before .before .before .before .before .before .before .before .before .before .before in
-    (start .pre .0, c .before .before .before .before .find-sections .ensures, start .pre .3,
-    sound-marked _ _ _ _ _ (c .before .before .before .before .before .before .before .before .reading2 .given .1) (c .before .before .before .before .before .before .before .before .before .before .read .ensures .1))
+    let start = c .before .before .before .before .before .before .before .before .before .before .before .before .before .before .before in (
+      start .pre .0,
+      c .before .before .before .before .find-sections .ensures,
+      start .pre .3,
+      sound-marked _ _ _ _ _ (c .before .before .before .before .before .before .before .before .reading2 .given .1) (c .before .before .before .before .before .before .before .before .before .before .read .ensures .1),
+    )
 
 -- `Verdict::Refused(refusal) => Judging::Refused(refusal)`
 enum-known-verdict : tie.Need-enum-known-verdict

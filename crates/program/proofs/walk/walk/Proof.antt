@@ -94,13 +94,14 @@ changed : (u : tie.After-turn-at Inv-loop μ-loop) (ch : Change) (place : ℕ) �
     × Marking (a .limits .now) (a .s .now) (a .start) (a .n) (a .bit) (a .writers .now) (l .writers) (l .p + 1)
 changed u ch place e names =
     let a = u .before .before .before .before .before .before .before .before .before .before .before .before .before .before .before .before .before .args in
-    let l = u .before .before .before .before .before .before .before .before .before .before .before .before .before .loop in
-    (walking-changed (a .limits .now) (a .s .now) (a .start) (a .n) (l .entries) (l .depth) (l .place) (l .p) (l .inv .0) (u .before .before .before .before .before .before .before .before .before .before .before .before .loop-test .taken) (valid-there (u .before .before .before .before .before))
-    ch place (change-room u ch e) names (λ locks variables k.
-    turn-goes (l .p) (l .depth) (l .entries) (u .turn-at .result) (rowForm (u .before .before .before .before .before .before .before .before .before .before .row-of .result) (getD (u .before .before .before .before .before .before .before .before .before .before .before .before .before .before .before .before .before .args .s .now) (u .before .before .before .before .before .before .before .before .before .before .before .before .before .before .before .before .before .args .start + 4 * u .before .before .before .before .before .before .before .before .before .before .before .before .before .loop .p + 1) 0) (u .before .distance .result)) (turn-right u)
-    locks variables (a .s .now) (a .start) (a .n) (form-there u locks variables k) (u .before .before .before .before .before .before .before .before .before .before .before .before .loop-test .taken) ch e (l .inv .0 .entries-length) (l .inv .0 .depth-bound)),
-    marking-passed (a .limits .now) (a .s .now) (a .start) (a .n) (a .bit) (a .writers .now) (l .writers) (l .p) (l .inv .1)
-    (u .before .before .before .before .before .before .before .before .before .before .before .before .loop-test .taken) (l .writers) (l .inv .1 .table-length) (unmarked-there u))
+    let l = u .before .before .before .before .before .before .before .before .before .before .before .before .before .loop in (
+      walking-changed (a .limits .now) (a .s .now) (a .start) (a .n) (l .entries) (l .depth) (l .place) (l .p) (l .inv .0) (u .before .before .before .before .before .before .before .before .before .before .before .before .loop-test .taken) (valid-there (u .before .before .before .before .before))
+          ch place (change-room u ch e) names (λ locks variables k.
+          turn-goes (l .p) (l .depth) (l .entries) (u .turn-at .result) (rowForm (u .before .before .before .before .before .before .before .before .before .before .row-of .result) (getD (u .before .before .before .before .before .before .before .before .before .before .before .before .before .before .before .before .before .args .s .now) (u .before .before .before .before .before .before .before .before .before .before .before .before .before .before .before .before .before .args .start + 4 * u .before .before .before .before .before .before .before .before .before .before .before .before .before .loop .p + 1) 0) (u .before .distance .result)) (turn-right u)
+          locks variables (a .s .now) (a .start) (a .n) (form-there u locks variables k) (u .before .before .before .before .before .before .before .before .before .before .before .before .loop-test .taken) ch e (l .inv .0 .entries-length) (l .inv .0 .depth-bound)),
+      marking-passed (a .limits .now) (a .s .now) (a .start) (a .n) (a .bit) (a .writers .now) (l .writers) (l .p) (l .inv .1)
+          (u .before .before .before .before .before .before .before .before .before .before .before .before .loop-test .taken) (l .writers) (l .inv .1 .table-length) (unmarked-there u),
+    )
 
 loop-holds : tie.Need-loop-holds Inv-loop μ-loop
 loop-holds c = (walking-start _ _ _ _, marking-start _ _ _ _ _ _ (c .before .before .before .pre .4))
@@ -148,9 +149,11 @@ is-valid-requires c κs = (limits-length _ (c .before .before .before .before .b
 returns : tie.Need-returns Inv-loop μ-loop
 returns c locks variables k =
     let a = c .before .before .before .before .before .before .before .before .before .before .before .before .args in
-    let l = c .before .before .before .before .before .before .before .before .loop in
-    (ends-invalid (a .limits .now) (a .s .now) (a .start) (a .n) (l .entries) (l .depth) (l .place) (l .p) (l .inv .0) (c .before .before .before .before .before .before .before .loop-test .taken) locks variables k
-    (invalid-there c locks variables k), tt)
+    let l = c .before .before .before .before .before .before .before .before .loop in (
+      ends-invalid (a .limits .now) (a .s .now) (a .start) (a .n) (l .entries) (l .depth) (l .place) (l .p) (l .inv .0) (c .before .before .before .before .before .before .before .loop-test .taken) locks variables k
+          (invalid-there c locks variables k),
+      tt,
+    )
 
 -- `if is_nesting(row)`
 is-nesting-requires : tie.Need-is-nesting-requires Inv-loop μ-loop
@@ -194,12 +197,13 @@ returns-2 : tie.Need-returns-2 Inv-loop μ-loop
 returns-2 c locks variables k =
     let u = c .before .before .before in
     let a = u .before .before .before .before .before .before .before .before .before .before .before .before .before .before .before .before .before .args in
-    let l = u .before .before .before .before .before .before .before .before .before .before .before .before .before .loop in
-    (c .broken .ensures locks variables k
-    ∙ ends-broken (a .limits .now) (a .s .now) (a .start) (a .n) (l .entries) (l .depth) (l .place) (l .p) (l .inv .0) (u .before .before .before .before .before .before .before .before .before .before .before .before .loop-test .taken) (valid-there (u .before .before .before .before .before)) locks variables k
-    (turn-broken (l .p) (l .depth) (l .entries) (u .turn-at .result) _ (turn-right u)
-    locks variables (a .s .now) (a .start) (a .n) (form-there u locks variables k) (u .before .before .before .before .before .before .before .before .before .before .before .before .loop-test .taken) (c .before .enum-told .given .1)),
-    broken-marks _ (firstInvalid locks variables (a .s .now) (a .n - l .p - 1) (a .start + 4 * l .p + 4)) (a .start + 4 * l .p) _ _ (c .broken .ensures locks variables k))
+    let l = u .before .before .before .before .before .before .before .before .before .before .before .before .before .loop in (
+      c .broken .ensures locks variables k
+          ∙ ends-broken (a .limits .now) (a .s .now) (a .start) (a .n) (l .entries) (l .depth) (l .place) (l .p) (l .inv .0) (u .before .before .before .before .before .before .before .before .before .before .before .before .loop-test .taken) (valid-there (u .before .before .before .before .before)) locks variables k
+          (turn-broken (l .p) (l .depth) (l .entries) (u .turn-at .result) _ (turn-right u)
+          locks variables (a .s .now) (a .start) (a .n) (form-there u locks variables k) (u .before .before .before .before .before .before .before .before .before .before .before .before .loop-test .taken) (c .before .enum-told .given .1)),
+      broken-marks _ (firstInvalid locks variables (a .s .now) (a .n - l .p - 1) (a .start + 4 * l .p + 4)) (a .start + 4 * l .p) _ _ (c .broken .ensures locks variables k),
+    )
 
 -- `p += 1`
 add-p : tie.Need-add-p Inv-loop μ-loop
@@ -303,20 +307,22 @@ returns-3 : tie.Need-returns-3 Inv-loop μ-loop
 returns-3 c locks variables k =
     let a = c .before .before .before .before .before .before .before .before .before .before .before .before .before .before .before .before .args in
     let l = c .before .before .before .before .before .before .before .before .before .before .before .before .loop in
-    let more = c .before .before .before .before .before .before .before .before .before .before .before .loop-test .taken in
-    (c .broken2 .ensures locks variables k
-    ∙ ends-broken (a .limits .now) (a .s .now) (a .start) (a .n) (l .entries) (l .depth) (l .place) (l .p) (l .inv .0) more (valid-there (c .before .before .before .before)) locks variables k
-    (plain-broken (a .limits .now) (a .s .now) (a .start) (a .n) (l .entries) (l .depth) (l .place) (l .p) (l .inv .0) more (valid-there (c .before .before .before .before)) (plain-there (c .before .before)) (omega arith)
-    (eq-eqb (l .place) (l .p) (sym (c .before .if3 .taken))) locks variables k),
-    broken-marks _ (firstInvalid locks variables (a .s .now) (a .n - l .p - 1) (a .start + 4 * l .p + 4)) (a .start + 4 * l .p) _ _ (c .broken2 .ensures locks variables k))
+    let more = c .before .before .before .before .before .before .before .before .before .before .before .loop-test .taken in (
+      c .broken2 .ensures locks variables k
+          ∙ ends-broken (a .limits .now) (a .s .now) (a .start) (a .n) (l .entries) (l .depth) (l .place) (l .p) (l .inv .0) more (valid-there (c .before .before .before .before)) locks variables k
+          (plain-broken (a .limits .now) (a .s .now) (a .start) (a .n) (l .entries) (l .depth) (l .place) (l .p) (l .inv .0) more (valid-there (c .before .before .before .before)) (plain-there (c .before .before)) (omega arith)
+          (eq-eqb (l .place) (l .p) (sym (c .before .if3 .taken))) locks variables k),
+      broken-marks _ (firstInvalid locks variables (a .s .now) (a .n - l .p - 1) (a .start + 4 * l .p + 4)) (a .start + 4 * l .p) _ _ (c .broken2 .ensures locks variables k),
+    )
 
 -- `mark(row, b, bit, &mut *writers)`
 mark-requires : tie.Need-mark-requires Inv-loop μ-loop
 unfolding decodeAt
 mark-requires c κs =
-    let known = c .before .before .before .before .before .before .before .before .before .before .before .before .before .before .before .before .pre .1 in
-    (c .before .before .before .before .before .before .before .before .before .before .before .before .loop .inv .1 .table-length,
-    λ e. let h = row-variable (known .0) (known .1) _ _ _ _ (valid-there (c .before .before .before .before) (known .0) (known .1) (known .3)) (sym (c .before .before .before .before .before .before .before .before .before .row-of .ensures .0) ∙ e) in omega (arith, known .2))
+    let known = c .before .before .before .before .before .before .before .before .before .before .before .before .before .before .before .before .pre .1 in (
+      c .before .before .before .before .before .before .before .before .before .before .before .before .loop .inv .1 .table-length,
+      λ e. let h = row-variable (known .0) (known .1) _ _ _ _ (valid-there (c .before .before .before .before) (known .0) (known .1) (known .3)) (sym (c .before .before .before .before .before .before .before .before .before .row-of .ensures .0) ∙ e) in omega (arith, known .2),
+    )
 
 -- `p += 1`
 add-p-2 : tie.Need-add-p-2 Inv-loop μ-loop
@@ -330,19 +336,21 @@ unfolding decodeAt
 loop-again-4 c =
     let a = c .before .before .before .before .before .before .before .before .before .before .before .before .before .before .before .before .before .args in
     let l = c .before .before .before .before .before .before .before .before .before .before .before .before .before .loop in
-    let more = c .before .before .before .before .before .before .before .before .before .before .before .before .loop-test .taken in
-    (walking-plain (a .limits .now) (a .s .now) (a .start) (a .n) (l .entries) (l .depth) (l .place) (l .p) (l .inv .0) more (valid-there (c .before .before .before .before .before)) (plain-there (c .before .before .before)) (omega arith)
-    (ne-eqb (l .place) (l .p) (λ e. c .before .before .if3 .left (sym e))),
-    marking-passed (a .limits .now) (a .s .now) (a .start) (a .n) (a .bit) (a .writers .now) (l .writers) (l .p) (l .inv .1) more _ (length-by-row (c .before .before .before .before .before .before .before .before .before .before .row-of .result) (a .bit) (getD (a .s .now) (a .start + 4 * l .p + 2) 0) (l .writers) _ (c .mark .ensures) ∙ l .inv .1 .table-length)
-    (λ locks variables k. row-marks locks variables _ _ _ _ (valid-there (c .before .before .before .before .before) locks variables k) _ _ ∙ rw (← c .before .before .before .before .before .before .before .before .before .before .row-of .ensures .0) (sym (c .mark .ensures))))
+    let more = c .before .before .before .before .before .before .before .before .before .before .before .before .loop-test .taken in (
+      walking-plain (a .limits .now) (a .s .now) (a .start) (a .n) (l .entries) (l .depth) (l .place) (l .p) (l .inv .0) more (valid-there (c .before .before .before .before .before)) (plain-there (c .before .before .before)) (omega arith)
+          (ne-eqb (l .place) (l .p) (λ e. c .before .before .if3 .left (sym e))),
+      marking-passed (a .limits .now) (a .s .now) (a .start) (a .n) (a .bit) (a .writers .now) (l .writers) (l .p) (l .inv .1) more _ (length-by-row (c .before .before .before .before .before .before .before .before .before .before .row-of .result) (a .bit) (getD (a .s .now) (a .start + 4 * l .p + 2) 0) (l .writers) _ (c .mark .ensures) ∙ l .inv .1 .table-length)
+          (λ locks variables k. row-marks locks variables _ _ _ _ (valid-there (c .before .before .before .before .before) locks variables k) _ _ ∙ rw (← c .before .before .before .before .before .before .before .before .before .before .row-of .ensures .0) (sym (c .mark .ensures))),
+    )
 
 -- `return Walked::Nested`
 returns-4 : tie.Need-returns-4 Inv-loop μ-loop
 returns-4 c locks variables k =
     let a = c .before .before .before .before .before .before .args in
-    let l = c .before .before .loop in
-    (walking-nested (a .limits .now) (a .s .now) (a .start) (a .n) (l .entries) (l .depth) (l .place) (l .p) (l .inv .0) (c .before .loop-test .left) (c .if4 .taken) locks variables k,
-    marking-end (a .limits .now) (a .s .now) (a .start) (a .n) (a .bit) (a .writers .now) (l .writers) (l .p) (l .inv .1) (c .before .loop-test .left) locks variables k)
+    let l = c .before .before .loop in (
+      walking-nested (a .limits .now) (a .s .now) (a .start) (a .n) (l .entries) (l .depth) (l .place) (l .p) (l .inv .0) (c .before .loop-test .left) (c .if4 .taken) locks variables k,
+      marking-end (a .limits .now) (a .s .now) (a .start) (a .n) (a .bit) (a .writers .now) (l .writers) (l .p) (l .inv .1) (c .before .loop-test .left) locks variables k,
+    )
 
 -- `Walked::Broken(start + INSTRUCTION_SIZE * n)`
 mul-t56 : tie.Need-mul-t56 Inv-loop μ-loop
