@@ -1,15 +1,15 @@
 -- The laws of the atomicity algebra, from one computed test: each is a test of three atomicities, and all pass at all of them. Assumes nothing.
---     then-assoc, both-then, then-both        composition is associative, with B neutral
---     then-mono-left, then-mono-right         composition is monotone on either side
---     then-above                              what is composed with more only grows
---     order-refl, order-trans, order-join     the order; a is at or below b exactly if the two joined are b
---     both-least, not-top-below               B is at or below everything; below what is not T nothing is T
---     join-left, join-right, join-least       the join is the least upper bound
---     then-join, join-then                    composition distributes over joins on either side
---     closure-above, closure-twice            the closure is above, and closed
---     loop-again                              one turn more stays within the loop: (x ; b*) ; b is at or below x ; b*
---     right-before, right-after               both parts of what is at or below R are at or below R
---     left-after                              past the commit, what may still follow in a block is at or below L
+--     then-assoc, both-then, then-both               composition is associative, with B neutral
+--     then-mono-left, then-mono-right, then-mono     composition is monotone on either side, and on both
+--     then-above                                     what is composed with more only grows
+--     order-refl, order-trans, order-join            the order; a is at or below b exactly if the two joined are b
+--     both-least, not-top-below                      B is at or below everything; below what is not T nothing is T
+--     join-left, join-right, join-least, join-mono   the join is the least upper bound, and monotone
+--     then-join, join-then                           composition distributes over joins on either side
+--     closure-above, closure-twice, closure-mono     the closure is above, closed, and monotone
+--     loop-again                                     one turn more stays within the loop: (x ; b*) ; b is at or below x ; b*
+--     right-before, right-after                      both parts of what is at or below R are at or below R
+--     left-after                                     past the commit, what may still follow in a block is at or below L
 use mathlib.Core.Path.{_≡_, refl, _∙_, sym, ap, subst}
 use mathlib.Core.Bool.{Bool, true, false, not, _&&_}
 use mathlib.Core.List.{List, [], _∷_, map}
@@ -83,7 +83,7 @@ data Law : Type 0 where
   associative neutral-left neutral-right monotone-left monotone-right growing : Law
   reflexive transitive by-join least greatest : Law
   upper-left upper-right least-upper over-join join-over : Law
-  closed-above closed one-turn-more : Law
+  closed-above closed closed-monotone one-turn-more : Law
   right-first right-second past-commit : Law
 
 abbrev test : Law → Test
@@ -105,6 +105,7 @@ test over-join a b c = sameAtomicity (composition a (join b c)) (join (compositi
 test join-over a b c = sameAtomicity (composition (join a b) c) (join (composition a c) (composition b c))
 test closed-above a b c = atMost a (closure a)
 test closed a b c = sameAtomicity (closure (closure a)) (closure a)
+test closed-monotone a b c = implies (atMost a b) (atMost (closure a) (closure b))
 test one-turn-more a b c = atMost (composition (composition a (closure b)) b) (composition a (closure b))
 test right-first a b c = implies (atMost (composition a b) Right) (atMost a Right)
 test right-second a b c = implies (atMost (composition a b) Right) (atMost b Right)
@@ -115,7 +116,7 @@ laws =
     associative ∷ neutral-left ∷ neutral-right ∷ monotone-left ∷ monotone-right ∷ growing
     ∷ reflexive ∷ transitive ∷ by-join ∷ least ∷ greatest ∷ upper-left
     ∷ upper-right ∷ least-upper ∷ over-join ∷ join-over ∷ closed-above ∷ closed
-    ∷ one-turn-more ∷ right-first ∷ right-second ∷ past-commit ∷ []
+    ∷ one-turn-more ∷ right-first ∷ right-second ∷ past-commit ∷ closed-monotone ∷ []
 
 -- the one computed test
 all-pass : T (allTrue (map (λ (l : Law). atEachThree (test l)) laws))
@@ -149,6 +150,7 @@ passed one-turn-more = passed-at 18
 passed right-first = passed-at 19
 passed right-second = passed-at 20
 passed past-commit = passed-at 21
+passed closed-monotone = passed-at 22
 
 -- a law at three atomicities
 law : (l : Law) (a b c : Atomicity) → T (test l a b c)
@@ -184,6 +186,10 @@ pub order-trans : (a b c : Atomicity) → T (atMost a b) → T (atMost b c) → 
 order-trans a b c h k =
     implies-to (atMost b c) _ (implies-to (atMost a b) _ (law transitive a b c) h) k
 
+pub then-mono : (a b x y : Atomicity) → T (atMost a b) → T (atMost x y) → T (atMost (composition a x) (composition b y))
+then-mono a b x y h k =
+    order-trans (composition a x) (composition b x) (composition b y) (then-mono-left a b x h) (then-mono-right x y b k)
+
 pub order-join : (a b : Atomicity) → eqb (column (join a b)) (column b) ≡ atMost a b
 order-join a b = agree-eq _ _ (law by-join a b a)
 
@@ -205,6 +211,10 @@ pub join-least : (a b c : Atomicity) → T (atMost a c) → T (atMost b c) → T
 join-least a b c h k =
     implies-to (atMost b c) _ (implies-to (atMost a c) _ (law least-upper a b c) h) k
 
+pub join-mono : (a b x y : Atomicity) → T (atMost a b) → T (atMost x y) → T (atMost (join a x) (join b y))
+join-mono a b x y h k =
+    join-least a x (join b y) (order-trans a b (join b y) h (join-left b y)) (order-trans x y (join b y) k (join-right b y))
+
 pub then-join : (a b c : Atomicity) → composition a (join b c) ≡ join (composition a b) (composition a c)
 then-join a b c = sameAtomicity-eq _ _ (law over-join a b c)
 
@@ -216,6 +226,9 @@ closure-above a = law closed-above a a a
 
 pub closure-twice : (a : Atomicity) → closure (closure a) ≡ closure a
 closure-twice a = sameAtomicity-eq _ _ (law closed a a a)
+
+pub closure-mono : (a b : Atomicity) → T (atMost a b) → T (atMost (closure a) (closure b))
+closure-mono a b h = implies-to (atMost a b) _ (law closed-monotone a b a) h
 
 pub loop-again : (x b : Atomicity) → T (atMost (composition (composition x (closure b)) b) (composition x (closure b)))
 loop-again x b = law one-turn-more x b x

@@ -26,7 +26,7 @@ use Rattle.program.specs.declared.variable.Kind.{Kind}
 use Rattle.program.specs.declared.variable.Kind.the-variants.{Guarded, Own, Fixed, Open}
 use Rattle.program.specs.declared.variable.Recorded.{Recorded}
 use Rattle.program.specs.declared.variable.Recorded.the-variants.{Valid, Invalid}
-use Rattle.judge.specs.Discipline.{kindAt, permits, accessAtomicity}
+use Rattle.judge.specs.Discipline.{kindAt, permits, kindAtomicity, accessAtomicity}
 use Rattle.judge.specs.Internal.Effect.{passing, accessEffect}
 use Rattle.judge.specs.Internal.Rule.{ruleOf, ruled, RuleTables}
 use Rattle.judge.specs.declared.effect.Effect.{Effect}
@@ -69,12 +69,7 @@ recorded-lock locks threads kind g few =
 module _ (d c : ℕ) (s : LockSet) (isWrite others : Bool) where
   -- what an access of a variable of this kind comes to
   abbrev accessed : Kind → Effect
-  accessed k = choose (permits k c s isWrite) (passing (elim k [
-    | Guarded g ↦ atomicity.Both
-    | Own g ↦ atomicity.Both
-    | Fixed ↦ atomicity.Both
-    | Open ↦ choose (isWrite || others) atomicity.Atomic atomicity.Both
-  ])) (Refused (refusal.Access d))
+  accessed k = choose (permits k c s isWrite) (passing (kindAtomicity k (isWrite || others))) (Refused (refusal.Access d))
 
   own-says : (mine : Bool) → ruled (choose mine 16 18) d s ≡ choose mine Nothing (Refused (refusal.Access d))
   unfolding ruled

@@ -30,7 +30,7 @@ use Rattle.program.specs.declared.variable.Kind.{Kind}
 use Rattle.program.specs.declared.variable.Kind.the-variants.{Guarded, Own, Fixed, Open}
 use Rattle.program.proofs.Differ.{differ}
 use Rattle.program.proofs.StructureTurn.{comes-to}
-use Rattle.judge.specs.Discipline.{kindAt, permits, accessedSet, accessAtomicity, accessMover}
+use Rattle.judge.specs.Discipline.{kindAt, permits, accessedSet, kindAtomicity, accessAtomicity, accessMover}
 use Rattle.judge.specs.LockSet.{holds, withLock, withoutLock}
 use Rattle.judge.specs.Internal.Effect.{passing, accessEffect, formEffect, effectOf}
 use Rattle.judge.specs.Internal.Scan.{Carried, carried, applied}
@@ -46,24 +46,16 @@ data Passes : Atomicity → Type 0 where
   as-both : Passes atomicity.Both
   as-atomic : Passes atomicity.Atomic
 
+kind-passes : (k : Kind) (races : Bool) → Passes (kindAtomicity k races)
+kind-passes (Guarded g) races = as-both
+kind-passes (Own g) races = as-both
+kind-passes Fixed races = as-both
+kind-passes Open true = as-atomic
+kind-passes Open false = as-both
+
 access-passes : (p : Program) (c v : ℕ) (isWrite : Bool) → Passes (accessAtomicity p c v isWrite)
 unfolding accessAtomicity
-access-passes p c v isWrite = by-kind (kindAt p v)
-  where
-    chosen : (races : Bool) → Passes (choose races atomicity.Atomic atomicity.Both)
-    chosen true = as-atomic
-    chosen false = as-both
-
-    by-kind : (k : Kind) → Passes (elim k [
-      | Guarded g ↦ atomicity.Both
-      | Own g ↦ atomicity.Both
-      | Fixed ↦ atomicity.Both
-      | Open ↦ choose (isWrite || writtenByOther p c v) atomicity.Atomic atomicity.Both
-    ])
-    by-kind (Guarded g) = as-both
-    by-kind (Own g) = as-both
-    by-kind Fixed = as-both
-    by-kind Open = chosen (isWrite || writtenByOther p c v)
+access-passes p c v isWrite = kind-passes (kindAt p v) (isWrite || writtenByOther p c v)
 
 module _ (d at : ℕ) (s : LockSet) (a : Atomicity) (fs : List Frame) (report : List ℕ) where
   -- what is carried on from an instruction of atomicity b that leads to the lock set t

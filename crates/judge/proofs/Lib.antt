@@ -15,6 +15,7 @@
 --     Races           two threads' accesses of one variable, one of them a WRITE, are A
 --     Rules, RulesProgram, RulesFile
 --                     judging code, a program and a file is deriving by the rules
+--     Earlier         what the earlier rule for open variables accepted is accepted
 pub mod Definitions
 pub mod LockSets
 pub mod VariableKinds
@@ -32,3 +33,4 @@ pub mod Races
 pub mod Rules
 pub mod RulesProgram
 pub mod RulesFile
+pub mod Earlier

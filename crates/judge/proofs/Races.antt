@@ -22,7 +22,7 @@ use Rattle.judge.specs.declared.lock_set.LockSet.{LockSet}
 open-atomic : (p : Program) (t v : ℕ) (w : Bool) → kindAt p v ≡ Open → (w || writtenByOther p t v) ≡ true
     → accessAtomicity p t v w ≡ atomicity.Atomic
 unfolding accessAtomicity
-open-atomic p t v w e o = rw (e, accessAtomicity, o)
+open-atomic p t v w e o = rw (e, o)
 
 -- of two accesses, one of them a WRITE, the first is a WRITE, or the other thread writes the variable
 either-writes : (p : Program) (t u v : ℕ) (w w′ : Bool) → u ≢ t → (w || w′) ≡ true → (w′ ≡ true → hasWrite v (codeOf p u) ≡ true)

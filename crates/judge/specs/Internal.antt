@@ -4,8 +4,10 @@
 --     Effect      what an instruction does in the walk over a code
 --     Rule        what a variable asks of a code that reads or writes it, as a byte
 --     Scan        judging as one walk over flat code; proofs/Scanning.antt proves that it agrees with the rules
+--     Earlier     the rule for open variables in the standard's version 1.0
 pub mod Nested
 pub mod Judgement
 pub mod Effect
 pub mod Rule
 pub mod Scan
+pub mod Earlier

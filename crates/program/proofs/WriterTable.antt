@@ -1,7 +1,7 @@
 -- What the table of writers says: a variable's byte has a bit besides code c's exactly if another code writes the variable. Assumes nothing.
 --     besides-or, besides-bit   a bit besides those of another number, and of a code's
 --     table-says                the table of all codes
-use Prim.Native.Nat.{ℕ, zero, suc, _+_, _*_, _/_, _%_, _^_, _<_, max}
+use Prim.Native.Nat.{ℕ, suc, _+_, _*_, _/_, _%_, _^_, _<_, max}
 use mathlib.Core.Path.{_≡_, refl, sym, ap, ap₂, _∙_}
 use mathlib.Core.Logic.{_≢_, Ne·symm}
 use mathlib.Core.Bool.{Bool, true, false, not, _&&_, _||_, and-true, and-false, or-false}

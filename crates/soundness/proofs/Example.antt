@@ -4,6 +4,7 @@
 --     serialized-other                      the list that is promised is another
 --     frame-report                          thread 0's READ of the variable that it alone writes is B, and so its block, which begins with
 --                                           it and takes a lock later, is A
+--     frame-refused-before                  by the rule of the standard's version 1.0 the same file is refused
 --     frame-seen                            after the list thread 1 has seen the frame before
 --     second-writer-refused                 with a second writer thread 0's block, the same code, is refused with 13
 use Prim.Native.Nat.{ℕ, zero, suc, _<_}
@@ -20,6 +21,7 @@ use Rattle.program.specs.Answer.{fine, refused}
 use Rattle.program.specs.declared.refusal.Refusal.the-variants.{NotAtomic}
 use Rattle.judge.specs.Acceptance.{accept}
 use Rattle.judge.proofs.Definitions.{judging-definitions}
+use Rattle.judge.specs.Internal.Earlier.{writesBelow, withWriter, judgeBefore}
 use Rattle.machine.specs.Run.{run}
 use Rattle.machine.specs.State.{threadOf}
 use Rattle.machine.specs.Block.{NobodyInside, Uninterrupted}
@@ -29,7 +31,7 @@ use Rattle.soundness.specs.Internal.Example.{adder, adders, interleaving
 
 -- all definitions open
 unfoldable definitions : Unit {0}
-unfolding judging-definitions running-definitions adder adders interleaving counter reader frame secondWriter frameList acceptedOf
+unfolding judging-definitions running-definitions writesBelow withWriter judgeBefore adder adders interleaving counter reader frame secondWriter frameList acceptedOf
 definitions = tt
 
 -- each entry is below n
@@ -115,7 +117,12 @@ pub frame-seen : (run (acceptedOf (accept frame) .program) frameList .state .var
 unfolding definitions
 frame-seen = (refl, refl)
 
--- "the file would be refused with 13", at the END of thread 0's block
+-- "in 1.0 it was A": the earlier rule refuses the file with 13, at the END of thread 0's block
+pub frame-refused-before : judgeBefore (acceptedOf (accept frame) .program) ≡ refused (NotAtomic 51)
+unfolding definitions
+frame-refused-before = refl
+
+-- "the file would be refused with 13", at the same place
 pub second-writer-refused : accept secondWriter ≡ refused (NotAtomic 51)
 unfolding definitions
 second-writer-refused = refl
