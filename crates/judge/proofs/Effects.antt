@@ -55,7 +55,7 @@ kind-passes Open false = as-both
 
 access-passes : (p : Program) (c v : ℕ) (isWrite : Bool) → Passes (accessAtomicity p c v isWrite)
 unfolding accessAtomicity
-access-passes p c v isWrite = kind-passes (kindAt p v) (isWrite || writtenByOther p c v)
+access-passes p c v isWrite = kind-passes (kindAt p v) _
 
 module _ (d at : ℕ) (s : LockSet) (a : Atomicity) (fs : List Frame) (report : List ℕ) where
   -- what is carried on from an instruction of atomicity b that leads to the lock set t

@@ -2,6 +2,7 @@
 --     Definitions     the definitions of judging open
 --     LockSets        lock sets, a bit for each lock
 --     VariableKinds   the kind of a variable, found in the file
+--     AccessRaces     two threads' accesses of one variable, one of them a WRITE, are A
 --     AccessRules     what a variable asks of a code, as a byte
 --     Effects         what an instruction does in the walk
 --     Reports         the report's bytes stored one after the other
@@ -12,13 +13,13 @@
 --     CodeLoop        the loop over the codes
 --     Accepting       from the scan to what judging a file answers
 --     Legal           the lock discipline of judging is that of the rules
---     Races           two threads' accesses of one variable, one of them a WRITE, are A
 --     Rules, RulesProgram, RulesFile
 --                     judging code, a program and a file is deriving by the rules
 --     Earlier         what the earlier rule for open variables accepted is accepted
 pub mod Definitions
 pub mod LockSets
 pub mod VariableKinds
+pub mod AccessRaces
 pub mod AccessRules
 pub mod Effects
 pub mod Reports
@@ -29,7 +30,6 @@ pub mod ScanLoop
 pub mod CodeLoop
 pub mod Accepting
 pub mod Legal
-pub mod Races
 pub mod Rules
 pub mod RulesProgram
 pub mod RulesFile

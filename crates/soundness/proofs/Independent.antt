@@ -12,7 +12,7 @@ use lib.Seq.{getD-set-same, getD-set-other, set-comm}
 use lib.Dec.{eqb}
 use Rattle.atomicity.specs.Atomicity.{atMost}
 use Rattle.atomicity.specs.declared.Atomicity.the-variants as atomicity
-use Rattle.judge.proofs.Races.{race-atomic}
+use Rattle.judge.proofs.AccessRaces.{race-atomic}
 use Rattle.judge.specs.Discipline.{kindAt, permits, accessAtomicity, accessMover}
 use Rattle.judge.specs.LockSet.{holds}
 use Rattle.judge.specs.declared.lock_set.LockSet.{LockSet}

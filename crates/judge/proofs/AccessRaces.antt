@@ -4,7 +4,7 @@
 --     race-atomic   and each of the two accesses is A
 use Prim.Native.Nat.{ℕ}
 use borrow.Author.Tests.{eqb-true}
-use mathlib.Core.Path.{_≡_, refl, sym, _∙_}
+use mathlib.Core.Path.{_≡_, refl, sym, ap, _∙_}
 use mathlib.Core.Logic.{_≢_, Ne·symm}
 use mathlib.Core.Bool.{Bool, true, false, _||_}
 use Rattle.atomicity.specs.declared.Atomicity.the-variants as atomicity
@@ -14,7 +14,7 @@ use Rattle.program.specs.Layout.{Program, codeOf}
 use Rattle.program.specs.Writers.{hasWrite, writtenByOther}
 use Rattle.program.specs.declared.variable.Kind.{Kind}
 use Rattle.program.specs.declared.variable.Kind.the-variants.{Guarded, Own, Fixed, Open}
-use Rattle.judge.specs.Discipline.{kindAt, permits, accessAtomicity}
+use Rattle.judge.specs.Discipline.{kindAt, permits, kindAtomicity, accessAtomicity}
 use Rattle.judge.specs.LockSet.{holds}
 use Rattle.judge.specs.declared.lock_set.LockSet.{LockSet}
 
@@ -22,7 +22,7 @@ use Rattle.judge.specs.declared.lock_set.LockSet.{LockSet}
 open-atomic : (p : Program) (t v : ℕ) (w : Bool) → kindAt p v ≡ Open → (w || writtenByOther p t v) ≡ true
     → accessAtomicity p t v w ≡ atomicity.Atomic
 unfolding accessAtomicity
-open-atomic p t v w e o = rw (e, o)
+open-atomic p t v w e o = ap (λ (k : Kind). kindAtomicity k (w || writtenByOther p t v)) e ∙ ap (kindAtomicity Open) o
 
 -- of two accesses, one of them a WRITE, the first is a WRITE, or the other thread writes the variable
 either-writes : (p : Program) (t u v : ℕ) (w w′ : Bool) → u ≢ t → (w || w′) ≡ true → (w′ ≡ true → hasWrite v (codeOf p u) ≡ true)
