@@ -1,7 +1,7 @@
 -- Two threads' accesses of one variable, one of them a WRITE, that the lock discipline permits: what the proof of demand 3 asks of the rule
 -- for open variables. Assumes nothing.
 --     conflict      the variable is open
---     race-atomic   and each of the two accesses is A
+--     race-atomic   and the first of the two is A; so is the other, with the threads exchanged
 use Prim.Native.Nat.{ℕ}
 use borrow.Author.Tests.{eqb-true}
 use mathlib.Core.Path.{_≡_, refl, sym, ap, _∙_}
@@ -14,21 +14,21 @@ use Rattle.program.specs.Layout.{Program, codeOf}
 use Rattle.program.specs.Writers.{hasWrite, writtenByOther}
 use Rattle.program.specs.declared.variable.Kind.{Kind}
 use Rattle.program.specs.declared.variable.Kind.the-variants.{Guarded, Own, Fixed, Open}
-use Rattle.judge.specs.Discipline.{kindAt, permits, kindAtomicity, accessAtomicity}
+use Rattle.judge.specs.Discipline.{kindAt, permits, mayRace, kindAtomicity, accessAtomicity}
 use Rattle.judge.specs.LockSet.{holds}
 use Rattle.judge.specs.declared.lock_set.LockSet.{LockSet}
 
--- an access of an open variable that is a WRITE, or that another thread writes, is A
-open-atomic : (p : Program) (t v : ℕ) (w : Bool) → kindAt p v ≡ Open → (w || writtenByOther p t v) ≡ true
+-- an access of an open variable that may race is A
+open-atomic : (p : Program) (t v : ℕ) (w : Bool) → kindAt p v ≡ Open → mayRace w (writtenByOther p t v) ≡ true
     → accessAtomicity p t v w ≡ atomicity.Atomic
 unfolding accessAtomicity
-open-atomic p t v w e o = ap (λ (k : Kind). kindAtomicity k (w || writtenByOther p t v)) e ∙ ap (kindAtomicity Open) o
+open-atomic p t v w e o = ap (λ (k : Kind). kindAtomicity k (mayRace w (writtenByOther p t v))) e ∙ ap (kindAtomicity Open) o
 
--- of two accesses, one of them a WRITE, the first is a WRITE, or the other thread writes the variable
-either-writes : (p : Program) (t u v : ℕ) (w w′ : Bool) → u ≢ t → (w || w′) ≡ true → (w′ ≡ true → hasWrite v (codeOf p u) ≡ true)
-    → (w || writtenByOther p t v) ≡ true
-either-writes p t u v true w′ n o has = refl
-either-writes p t u v false w′ n o has = written-by p t u v n (has o)
+-- of two accesses, one of them a WRITE, each may race: it is the WRITE, or the other thread writes the variable
+may-race : (p : Program) (t u v : ℕ) (w w′ : Bool) → u ≢ t → (w || w′) ≡ true → (w′ ≡ true → hasWrite v (codeOf p u) ≡ true)
+    → mayRace w (writtenByOther p t v) ≡ true
+may-race p t u v true w′ n o has = refl
+may-race p t u v false w′ n o has = written-by p t u v n (has o)
 
 -- thread t with the lock set s and thread u with s′, which have no lock in common
 module _ {t u : ℕ} (different : t ≢ u) (s s′ : LockSet) (exclusive : (l : ℕ) → holds s l ≡ true → holds s′ l ≡ true → ⊥) where
@@ -45,4 +45,4 @@ module _ {t u : ℕ} (different : t ≢ u) (s s′ : LockSet) (exclusive : (l : 
   pub race-atomic : (p : Program) (v : ℕ) (w w′ : Bool) → (w || w′) ≡ true → permits (kindAt p v) t s w ≡ true → permits (kindAt p v) u s′ w′ ≡ true
       → (w′ ≡ true → hasWrite v (codeOf p u) ≡ true) → accessAtomicity p t v w ≡ atomicity.Atomic
   race-atomic p v w w′ o h h′ has =
-      open-atomic p t v w (conflict (kindAt p v) w w′ h h′ o) (either-writes p t u v w w′ (Ne·symm different) o has)
+      open-atomic p t v w (conflict (kindAt p v) w w′ h h′ o) (may-race p t u v w w′ (Ne·symm different) o has)

@@ -26,9 +26,9 @@ use Rattle.program.specs.declared.variable.Kind.{Kind}
 use Rattle.program.specs.declared.variable.Kind.the-variants.{Guarded, Own, Fixed, Open}
 use Rattle.program.specs.declared.variable.Recorded.{Recorded}
 use Rattle.program.specs.declared.variable.Recorded.the-variants.{Valid, Invalid}
-use Rattle.judge.specs.Discipline.{kindAt, permits, kindAtomicity, accessAtomicity}
+use Rattle.judge.specs.Discipline.{kindAt, permits, mayRace, kindAtomicity, accessAtomicity}
 use Rattle.judge.specs.Internal.Effect.{passing, accessEffect}
-use Rattle.judge.specs.Internal.Rule.{ruleOf, ruled, RuleTables}
+use Rattle.judge.specs.Internal.Rule.{free, single, never, ruleOf, ruled, RuleTables}
 use Rattle.judge.specs.declared.effect.Effect.{Effect}
 use Rattle.judge.specs.declared.effect.Effect.the-variants.{Nothing, Refused}
 use Rattle.judge.specs.declared.lock_set.LockSet.{LockSet}
@@ -66,37 +66,32 @@ recorded-lock locks threads kind g few =
     valid false k h = record { locked = tt }
 
 -- an access by the byte of a kind
-module _ (d c : ℕ) (s : LockSet) (isWrite others : Bool) where
+module _ (d c : ℕ) (s : LockSet) (isWrite races : Bool) where
   -- what an access of a variable of this kind comes to
   abbrev accessed : Kind → Effect
-  accessed k = choose (permits k c s isWrite) (passing (kindAtomicity k (isWrite || others))) (Refused (refusal.Access d))
+  accessed k = choose (permits k c s isWrite) (passing (kindAtomicity k races)) (Refused (refusal.Access d))
 
-  own-says : (mine : Bool) → ruled (choose mine 16 18) d s ≡ choose mine Nothing (Refused (refusal.Access d))
+  free-says : (good : Bool) → ruled (choose good free never) d s ≡ choose good Nothing (Refused (refusal.Access d))
   unfolding ruled
-  own-says true = refl
-  own-says false = refl
+  free-says true = refl
+  free-says false = refl
 
-  fixed-says : (w : Bool) → ruled (choose w 18 16) d s ≡ choose (not w) Nothing (Refused (refusal.Access d))
-  unfolding ruled
-  fixed-says true = refl
-  fixed-says false = refl
-
-  open-says : (a : Bool) → ruled (choose a 17 16) d s ≡ passing (choose a atomicity.Atomic atomicity.Both)
+  open-says : (a : Bool) → ruled (choose a single free) d s ≡ passing (choose a atomicity.Atomic atomicity.Both)
   unfolding ruled
   open-says true = refl
   open-says false = refl
 
-  kind-says : (k : Kind) → LockGood k → ruled (ruleOf k c isWrite others) d s ≡ accessed k
+  kind-says : (k : Kind) → LockGood k → ruled (ruleOf k c isWrite races) d s ≡ accessed k
   unfolding ruled permits
   kind-says (Guarded g) h = rw (lt-ltb g lockLimit h)
-  kind-says (Own g) h = own-says (eqb g c)
-  kind-says Fixed h = fixed-says isWrite
-  kind-says Open h = open-says (isWrite || others)
+  kind-says (Own g) h = free-says (eqb g c)
+  kind-says Fixed h = free-says (not isWrite)
+  kind-says Open h = open-says races
 
 module _ (s : List ℕ) (l : Layout) (f : SoundFile s l) (c v : ℕ) (h : v < l .variables) where
-  -- whether another code writes variable v
-  abbrev othersThere : Bool
-  othersThere = writtenByOther (programOf s l) c v
+  -- whether an access of variable v may race, should it be open
+  abbrev racesThere : (isWrite : Bool) → Bool
+  racesThere isWrite = mayRace isWrite (writtenByOther (programOf s l) c v)
 
   -- the kind that the record of variable v says
   abbrev kindThere : Kind
@@ -104,22 +99,22 @@ module _ (s : List ℕ) (l : Layout) (f : SoundFile s l) (c v : ℕ) (h : v < l 
 
   -- and so the bytes
   abbrev readThere : ℕ
-  readThere = ruleOf kindThere c false othersThere
+  readThere = ruleOf kindThere c false (racesThere false)
 
   abbrev writeThere : ℕ
-  writeThere = ruleOf kindThere c true othersThere
+  writeThere = ruleOf kindThere c true (racesThere true)
 
   kind-good : LockGood (kindAt (programOf s l) v)
   unfolding recordAt
   kind-good = subst LockGood (sym (kind-in s l v h)) (recorded-lock (l .locks) (l .threads) _ _ (f .locks) .locked)
 
-  read-says : (d : ℕ) (t : LockSet) → ruled (ruleOf kindThere c false othersThere) d t ≡ accessEffect (programOf s l) c d (reads v) t
+  read-says : (d : ℕ) (t : LockSet) → ruled readThere d t ≡ accessEffect (programOf s l) c d (reads v) t
   unfolding accessEffect accessAtomicity
-  read-says d t = rw (← kind-in s l v h) (kind-says d c t false othersThere (kindAt (programOf s l) v) kind-good)
+  read-says d t = rw (← kind-in s l v h) (kind-says d c t false (racesThere false) (kindAt (programOf s l) v) kind-good)
 
-  write-says : (a d : ℕ) (t : LockSet) → ruled (ruleOf kindThere c true othersThere) d t ≡ accessEffect (programOf s l) c d (writes v a) t
+  write-says : (a d : ℕ) (t : LockSet) → ruled writeThere d t ≡ accessEffect (programOf s l) c d (writes v a) t
   unfolding accessEffect accessAtomicity
-  write-says a d t = rw (← kind-in s l v h) (kind-says d c t true othersThere (kindAt (programOf s l) v) kind-good)
+  write-says a d t = rw (← kind-in s l v h) (kind-says d c t true (racesThere true) (kindAt (programOf s l) v) kind-good)
 
 -- What holds at the head of the loop that fills the tables, before variable v
 pub record RulesFilled (s : List ℕ) (l : Layout) (c : ℕ) (readRules writeRules : List ℕ) (v : ℕ) : Type 0 where

@@ -7,7 +7,7 @@ use native.Mathlib.Decide.{ℕ-discrete}
 use native.Mathlib.Omega.{arith}
 use borrow.Author.Tests.{eq-eqb, ne-eqb}
 use mathlib.Core.Path.{_≡_, refl, sym, ap, _∙_}
-use mathlib.Core.Bool.{Bool, true, false, _||_, or-true}
+use mathlib.Core.Bool.{Bool, true, false}
 use mathlib.Core.List.{List, []}
 use lib.Dec.{T}
 use lib.ListN.{length, List·getD-append}
@@ -16,6 +16,7 @@ use Rattle.atomicity.proofs.Laws.{then-mono, order-refl, both-least, not-top-be
 use Rattle.atomicity.specs.Atomicity.{composition, join, closure, atMost}
 use Rattle.atomicity.specs.declared.Atomicity.{Atomicity}
 use Rattle.atomicity.specs.declared.Atomicity.the-variants as atomicity
+use Rattle.program.proofs.Differ.{differ}
 use Rattle.program.proofs.Writers.{written-by, writer-found}
 use Rattle.program.specs.Answer.{fine}
 use Rattle.program.specs.Code.{Code}
@@ -26,7 +27,7 @@ use Rattle.program.specs.declared.instruction.Instruction.{Instruction}
 use Rattle.program.specs.declared.variable.Kind.{Kind}
 use Rattle.program.specs.declared.variable.Kind.the-variants.{Guarded, Own, Fixed, Open}
 use Rattle.judge.specs.Acceptance.{sound, accept}
-use Rattle.judge.specs.Discipline.{kindAt, accessedSet, kindAtomicity, accessAtomicity, accessMover, moverOf, atomicityOf}
+use Rattle.judge.specs.Discipline.{kindAt, accessedSet, mayRace, kindAtomicity, accessAtomicity, accessMover, moverOf, atomicityOf}
 use Rattle.judge.specs.Rules.{Legal, Typed, typed-done, typed-plain, typed-choice, typed-loop, typed-block, TypedCodes, typed-none, typed-code}
 use Rattle.judge.specs.Internal.Earlier.{writesBelow, withWriter, judgeBefore}
 use Rattle.judge.specs.declared.lock_set.LockSet.{LockSet}
@@ -44,6 +45,17 @@ writes-below (suc n) v h = elim (ℕ-discrete n v) [
   | no d ↦ rw (ne-eqb n v d) (writes-below n v (omega (arith, d)))
 ]
 
+-- ---- who may race
+
+race-with-other : (w : Bool) → mayRace w true ≡ true
+race-with-other true = refl
+race-with-other false = refl
+
+race-mono : (w others still : Bool) → (others ≡ true → still ≡ true) → mayRace w others ≡ true → mayRace w still ≡ true
+race-mono w others true h e = race-with-other w
+race-mono w true false h e = let z = h refl in differ cc
+race-mono w false false h e = e
+
 module _ (p : Program) where
   written : (c v : ℕ) → c < length (p .codes) → v < length (p .variables) → writtenByOther (withWriter p) c v ≡ true
   unfolding withWriter codeOf
@@ -51,12 +63,12 @@ module _ (p : Program) where
       written-by (withWriter p) c (length (p .codes)) v (λ e. omega (arith, e))
       (ap (λ (x : CodeSection). hasWrite v (x .code)) (getD-append-seam (p .codes) _ [] _) ∙ writes-below (length (p .variables)) v variable)
 
-  -- so each access of an open variable may race
+  -- so an access of an open variable is A and any other B, as in version 1.0
   pub before-access : (c v : ℕ) (w : Bool) → c < length (p .codes) → v < length (p .variables)
       → accessAtomicity (withWriter p) c v w ≡ kindAtomicity (kindAt p v) true
   unfolding accessAtomicity kindAt withWriter
   before-access c v w code variable =
-      ap (λ (o : Bool). kindAtomicity (kindAt p v) (w || o)) (written c v code variable) ∙ ap (kindAtomicity (kindAt p v)) (or-true w)
+      ap (λ (o : Bool). kindAtomicity (kindAt p v) (mayRace w o)) (written c v code variable) ∙ ap (kindAtomicity (kindAt p v)) (race-with-other w)
 
   -- ---- an access, now and then
 
@@ -75,13 +87,9 @@ module _ (p : Program) where
   kind-below Open true still h = rw (h refl) (order-refl atomicity.Atomic)
   kind-below Open false still h = both-least (kindAtomicity Open still)
 
-  races-still : (c v : ℕ) (w : Bool) → (w || writtenByOther p c v) ≡ true → (w || writtenByOther (withWriter p) c v) ≡ true
-  races-still c v true e = refl
-  races-still c v false e = written-still c v e
-
   access-below : (c v : ℕ) (w : Bool) → T (atMost (accessAtomicity p c v w) (accessAtomicity (withWriter p) c v w))
   unfolding accessAtomicity withWriter kindAt
-  access-below c v w = kind-below (kindAt p v) (w || writtenByOther p c v) _ (races-still c v w)
+  access-below c v w = kind-below (kindAt p v) _ _ (race-mono w (writtenByOther p c v) (writtenByOther (withWriter p) c v) (written-still c v))
 
   mover-below : (c : ℕ) (s : LockSet) (x : Access) → T (atMost (accessMover p c s x) (accessMover (withWriter p) c s x))
   unfolding accessMover

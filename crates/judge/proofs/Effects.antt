@@ -6,7 +6,7 @@
 --     StepOf, step-of  what nesting is after an instruction, by its effect
 use Prim.Native.Nat.{ℕ, suc, _+_, _<_}
 use mathlib.Core.Path.{_≡_, refl, sym, ap, subst}
-use mathlib.Core.Bool.{Bool, true, false, not, _||_}
+use mathlib.Core.Bool.{Bool, true, false, not}
 use mathlib.Core.List.{List, _∷_}
 use lib.ListN.{length, set}
 use Rattle.atomicity.specs.Atomicity.{reportByte, composition}
@@ -18,7 +18,6 @@ use Rattle.program.specs.Answer.{fine, _>>=_, require}
 use Rattle.program.specs.Choice.{choose}
 use Rattle.program.specs.Layout.{Program}
 use Rattle.program.specs.Limits.{entryLimit}
-use Rattle.program.specs.Writers.{writtenByOther}
 use Rattle.program.specs.Internal.WellFormed as Passing
 use Rattle.program.specs.View as form
 use Rattle.program.specs.declared.instruction.Instruction.{Instruction}

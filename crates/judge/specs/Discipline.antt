@@ -41,7 +41,11 @@ accessedSet p c d (gives k) s = require (holds s k) (refusal.NotTaken d) (fine (
 unfoldable pub lockSetAfter : Program → (c d : ℕ) → Instruction → LockSet → Answer LockSet
 lockSetAfter p c d i s = accessedSet p c d (accessOf i) s
 
--- an access of a variable of this kind, that may race if the variable is open
+-- whether an access of an open variable may race: it is a WRITE, or another thread's code has a WRITE of the variable
+abbrev pub mayRace : (isWrite others : Bool) → Bool
+mayRace isWrite others = isWrite || others
+
+-- an access of a variable of this kind; whether it may race counts for an open one only
 abbrev pub kindAtomicity : Kind → (races : Bool) → Atomicity
 kindAtomicity (Guarded g) races = atomicity.Both
 kindAtomicity (Own g) races = atomicity.Both
@@ -50,7 +54,7 @@ kindAtomicity Open races = choose races atomicity.Atomic atomicity.Both
 
 -- "a WRITE of an open variable is A, a READ of an open variable is B if no other thread's code has a WRITE of it, and A otherwise"
 unfoldable pub accessAtomicity : Program → (c v : ℕ) → (isWrite : Bool) → Atomicity
-accessAtomicity p c v isWrite = kindAtomicity (kindAt p v) (isWrite || writtenByOther p c v)
+accessAtomicity p c v isWrite = kindAtomicity (kindAt p v) (mayRace isWrite (writtenByOther p c v))
 
 -- what a move that makes this access with the lock set s is: "TAKE is R, GIVE is L, .. every other plain instruction is B"
 unfoldable pub accessMover : Program → (c : ℕ) → LockSet → Access → Atomicity

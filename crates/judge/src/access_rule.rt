@@ -7,7 +7,7 @@ use program::limits::VARIABLE_SIZE;
 use program::variable::Kind;
 use program::variable::kind_at;
 ghost use mathlib.Core.Path.{_≡_};
-ghost use mathlib.Core.Bool.{Bool, false, true};
+ghost use mathlib.Core.Bool.{false, true};
 ghost use Prim.Native.Nat.{_^_, _<_};
 ghost use lib.ListN.{length};
 ghost use Rattle.program.specs.Choice.{choose};
@@ -35,16 +35,16 @@ fn free_if(good: bool) -> u8
     NEVER
 }
 
-fn single_if(others: bool) -> u8
-    ensures { λ r. ⌜ r ≡ choose others single free ⌝ }
+fn single_if(races: bool) -> u8
+    ensures { λ r. ⌜ r ≡ choose races single free ⌝ }
 {
-    if others {
+    if races {
         return SINGLE;
     }
     FREE
 }
 
-// "no other thread's code has a WRITE of it", by the bits of a variable's writers.
+// Whether another thread's code has a WRITE of a variable, by the bits of its writers.
 fn written_by_other(writers: u8, code: usize) -> bool
     requires { ⌜ code < codeLimit ⌝ }
     ensures { λ r. ⌜ r ≡ besides (2 ^ code) writers ⌝ }
@@ -53,25 +53,15 @@ fn written_by_other(writers: u8, code: usize) -> bool
     (writers | own) != own
 }
 
-fn read_rule(kind: Kind, code: usize, others: bool) -> u8
-    ensures { λ r. ⌜ r ≡ ruleOf kind code false others ⌝ }
+// An access of a variable of this kind; an open one may race.
+fn rule_of(kind: Kind, code: usize, writing: bool, races: bool) -> u8
+    ensures { λ r. ⌜ r ≡ ruleOf kind code writing races ⌝ }
 {
     match kind {
         Kind::Guarded(g) => g,
         Kind::Own(g) => free_if((g as usize) == code),
-        Kind::Fixed => FREE,
-        Kind::Open => single_if(others),
-    }
-}
-
-fn write_rule(kind: Kind, code: usize) -> u8
-    ensures { λ r. ⌜ ((others : Bool) → r ≡ ruleOf kind code true others) ⌝ }
-{
-    match kind {
-        Kind::Guarded(g) => g,
-        Kind::Own(g) => free_if((g as usize) == code),
-        Kind::Fixed => NEVER,
-        Kind::Open => SINGLE,
+        Kind::Fixed => free_if(!writing),
+        Kind::Open => single_if(races),
     }
 }
 
@@ -92,8 +82,8 @@ pub fn fill_rules(
     while v < l.variables {
         let kind = kind_at(s, RECORDS_START + VARIABLE_SIZE * v, l.locks, l.threads);
         let others = written_by_other(writers[v], code);
-        reads[v] = read_rule(kind, code, others);
-        writes[v] = write_rule(kind, code);
+        reads[v] = rule_of(kind, code, false, others);
+        writes[v] = rule_of(kind, code, true, true);
         v += 1;
     }
 }

@@ -5,7 +5,7 @@
 --     RuleTables            the bytes of all variables for one code say what the lock discipline says
 use Prim.Native.Nat.{ℕ, _<_}
 use mathlib.Core.Path.{_≡_}
-use mathlib.Core.Bool.{Bool, _||_}
+use mathlib.Core.Bool.{Bool, not}
 use mathlib.Core.List.{List}
 use lib.Dec.{ltb, eqb}
 use lib.ListN.{length, getD}
@@ -32,12 +32,12 @@ single = 17
 abbrev pub never : ℕ
 never = 18
 
--- where others tells whether another code writes the variable
-abbrev pub ruleOf : Kind → (c : ℕ) → (isWrite others : Bool) → ℕ
-ruleOf (Guarded g) c isWrite others = g
-ruleOf (Own g) c isWrite others = choose (eqb g c) free never
-ruleOf Fixed c isWrite others = choose isWrite never free
-ruleOf Open c isWrite others = choose (isWrite || others) single free
+-- where races tells whether an access of an open variable may race
+abbrev pub ruleOf : Kind → (c : ℕ) → (isWrite races : Bool) → ℕ
+ruleOf (Guarded g) c isWrite races = g
+ruleOf (Own g) c isWrite races = choose (eqb g c) free never
+ruleOf Fixed c isWrite races = choose (not isWrite) free never
+ruleOf Open c isWrite races = choose races single free
 
 -- an access at file offset d with the lock set s
 unfoldable pub ruled : (rule d : ℕ) → LockSet → Effect

@@ -5,7 +5,6 @@ use mathlib.Core.List.{List}
 use native.Mathlib.Omega.{arith}
 use lib.ListN.{getD}
 use Rattle.program.specs.Layout.{programOf}
-use Rattle.program.specs.Writers.{writtenByOther}
 use Rattle.program.specs.Internal.Marks.{besides}
 use Rattle.program.proofs.WriterTable.{table-says}
 use Rattle.judge.proofs.AccessRules.{RulesFilled, filled-start, filled-next, filled-end}
@@ -38,16 +37,16 @@ element-copy-out-written-by-other c = omega arith
 written-by-other-requires : tie.Need-written-by-other-requires Inv-loop μ-loop
 written-by-other-requires c κs = omega arith
 
--- `reads[v] = read_rule(kind, code, others)`
-read-rule-requires : tie.Need-read-rule-requires Inv-loop μ-loop
-read-rule-requires c κs = tt
+-- `reads[v] = rule_of(kind, code, false, others)`
+rule-of-requires : tie.Need-rule-of-requires Inv-loop μ-loop
+rule-of-requires c κs = tt
 
 element-write-reads : tie.Need-element-write-reads Inv-loop μ-loop
 element-write-reads c = omega arith
 
--- `writes[v] = write_rule(kind, code)`
-write-rule-requires : tie.Need-write-rule-requires Inv-loop μ-loop
-write-rule-requires c κs = tt
+-- `writes[v] = rule_of(kind, code, true, true)`
+rule-of-requires-2 : tie.Need-rule-of-requires-2 Inv-loop μ-loop
+rule-of-requires-2 c κs = tt
 
 element-write-writes : tie.Need-element-write-writes Inv-loop μ-loop
 element-write-writes c = omega arith
@@ -66,7 +65,7 @@ loop-again c =
     let more = c .before .before .before .before .before .if1 .taken in
     let others = c .before .before .written-by-other .ensures ∙ ap (λ (t : List ℕ). besides (2 ^ start .args .code) (getD t (l .v) 0)) (start .pre .4)
     ∙ table-says (start .args .code) (l .v) (programOf (start .args .s .now) (start .args .l)) (omega (arith, more, start .pre .0 .variables)) in
-    rw (c .before .read-rule .ensures, others, c .write-rule .ensures (writtenByOther (programOf (start .args .s .now) (start .args .l)) (start .args .code) (l .v)), c .before .before .before .before .kind-at .ensures)
+    rw (c .before .rule-of .ensures, c .rule-of2 .ensures, others, c .before .before .before .before .kind-at .ensures)
     (filled-next _ _ (start .pre .0) _ _ _ _ (l .inv) more)
 
 returns : tie.Need-returns Inv-loop μ-loop
@@ -84,9 +83,9 @@ fill-rules-spec =
     kind-at-requires
     element-copy-out-written-by-other
     written-by-other-requires
-    read-rule-requires
+    rule-of-requires
     element-write-reads
-    write-rule-requires
+    rule-of-requires-2
     element-write-writes
     add-v
     loop-less

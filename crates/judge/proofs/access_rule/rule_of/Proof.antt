@@ -1,7 +1,7 @@
--- `read_rule` meets its contract. Assumes nothing.
+-- `rule_of` meets its contract. Assumes nothing.
 use borrow.Author.Needs.{needs}
-use Rattle.judge.proofs.access_rule.read_rule.Statement.{statement}
-use Rattle.judge.proofs.access_rule.read_rule.Tie as tie
+use Rattle.judge.proofs.access_rule.rule_of.Statement.{statement}
+use Rattle.judge.proofs.access_rule.rule_of.Tie as tie
 
 -- `Kind::Guarded(g) => g`
 enum-known-kind : tie.Need-enum-known-kind
@@ -17,11 +17,14 @@ cast-free-if c = search needs
 free-if-requires : tie.Need-free-if-requires
 free-if-requires c κs = search needs
 
--- `Kind::Fixed => FREE`
+-- `Kind::Fixed => free_if(!writing)`
 enum-told : tie.Need-enum-told
 enum-told c = search needs
 
--- `Kind::Open => single_if(others)`
+free-if-requires-2 : tie.Need-free-if-requires-2
+free-if-requires-2 c κs = search needs
+
+-- `Kind::Open => single_if(races)`
 enum-told-2 : tie.Need-enum-told-2
 enum-told-2 c = search needs
 
@@ -38,10 +41,10 @@ returns-3 : tie.Need-returns-3
 returns-3 c = search needs
 
 returns-4 : tie.Need-returns-4
-returns-4 c = rw (c .before .enum-told2 .given .1) (c .single-if .ensures)
+returns-4 c = search needs
 
-pub read-rule-spec : {M : Type 1} → statement M
-read-rule-spec =
+pub rule-of-spec : {M : Type 1} → statement M
+rule-of-spec =
     tie.close
     (tie.spec
     enum-known-kind
@@ -49,6 +52,7 @@ read-rule-spec =
     cast-free-if
     free-if-requires
     enum-told
+    free-if-requires-2
     enum-told-2
     single-if-requires
     returns
