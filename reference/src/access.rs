@@ -14,7 +14,7 @@ pub(crate) struct Rule {
     pub atomicity: Atomicity,
 }
 
-/// An access that is allowed whatever is held.
+/// An access that is allowed whatever is held, and is B.
 const FREE: Rule = Rule {
     allowed: true,
     needs: LockSet::empty(),
@@ -28,7 +28,7 @@ pub(crate) struct AccessRules {
 }
 
 impl AccessRules {
-    /// What is the same for every thread; the rest is for `turn_to`.
+    /// What is the same for every thread; the rest is for `set_thread`.
     pub fn new(variables: &[Variable]) -> AccessRules {
         let mut rules = AccessRules {
             reads: [FREE; MAX_VARIABLES],
@@ -50,7 +50,7 @@ impl AccessRules {
     }
 
     /// Sets what differs from thread to thread: who owns a variable, and who else writes it.
-    pub fn turn_to(&mut self, thread: usize, variables: &[Variable], writers: &Writers) {
+    pub fn set_thread(&mut self, thread: usize, variables: &[Variable], writers: &Writers) {
         let written_by_others = writers.written_by_others(thread);
         for (number, variable) in variables.iter().enumerate() {
             match variable.kind {

@@ -58,7 +58,7 @@ impl Report {
         let mut rules = AccessRules::new(program.variables());
         let mut first_offence = None;
         program.read_code(cursor, |program, thread, code| {
-            rules.turn_to(thread, program.variables(), &writers);
+            rules.set_thread(thread, program.variables(), &writers);
             let offence = self.add_thread(program, &rules, code)?;
             first_offence = first_offence.or(offence);
             Ok(())

@@ -15,7 +15,7 @@
 //! | [`atomicity`] | "Atomicities": the algebra | – |
 //! | [`lock_set`] | "Lock discipline": the set itself | – |
 //! | `writers` | "Rules": which threads write an open variable | – |
-//! | `access` | "Lock discipline": the kinds of variables | – |
+//! | `access` | "Lock discipline", "Rules": the kinds of variables | – |
 //! | `judging` | "Lock discipline", "Atomicities": the rules | 9 to 13 |
 //! | [`judge`](mod@judge) | "Atomicities": the report | 16 |
 //! | [`machine`] | "The step machine" | 14 to 16 |

@@ -68,17 +68,17 @@ impl<'f> Program<'f> {
         (0..self.thread_count).map_while(move |_| cursor.code().ok())
     }
 
-    /// Reads the code section by section to the file's end; `read_code` reads each thread's, with a
+    /// Reads the code section by section to the file's end; `visit` reads each thread's, with a
     /// visitor of its own.
     #[inline]
     pub(crate) fn read_code(
         &mut self,
         mut cursor: Cursor<'f>,
-        mut read_code: impl FnMut(&Program, usize, Code) -> Result<(), Refusal>,
+        mut visit: impl FnMut(&Program, usize, Code) -> Result<(), Refusal>,
     ) -> Result<(), Refusal> {
         for thread in 0..self.thread_count {
             let code = cursor.code()?;
-            read_code(self, thread, code)?;
+            visit(self, thread, code)?;
             self.code[thread] = code;
         }
         cursor.finish()

@@ -58,8 +58,8 @@ impl Writers {
     }
 }
 
-/// The words that are compared with WRITE together, by vector instructions. Mostly there is none
-/// among them.
+/// The words that are compared with WRITE together, by vector instructions. Most groups have no
+/// WRITE.
 const GROUP: usize = 8;
 
 fn written_in(words: &[Word]) -> VariableSet {

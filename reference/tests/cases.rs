@@ -410,6 +410,23 @@ fn writers() -> String {
     .concat()
 }
 
+/// What `crates/cases` prints where one thread alone writes.
+fn one_writer() -> String {
+    let of = |name, variables: &[[u8; 6]], codes: &[&[Instruction]]| {
+        let name = format!("one writer, and {name}");
+        judged(&name, judge_in(100, &file(0, variables, codes)))
+    };
+    let write = |variable| Write { from: 0, variable };
+    let read = |to, variable| Read { to, variable };
+    let writes = block(&[write(0), write(1)]);
+    let reads = [read(0, 0), read(1, 1)];
+    [
+        of("READs of both threads", &[OPEN], &[&[WRITE, READ], &[READ]]),
+        of("a block of two WRITEs", &[OPEN, OPEN], &[&writes, &reads]),
+    ]
+    .concat()
+}
+
 /// A thread at place 6 with 3 in r0 and 5 in r1 after a step of this code, where v0 is 9.
 fn moved(name: &str, code: &[Instruction]) -> String {
     let file = file(1, &[[2, 0, 0, 0, 0, 9]], &[code]);
@@ -483,6 +500,7 @@ fn the_test_program_prints_these_answers() {
             &else_reads,
         ),
         writers(),
+        one_writer(),
         moves(),
     ];
     let stdout = include_str!("../../crates/cases/stdout");

@@ -175,35 +175,28 @@ fn a_loops_sets_are_compared_at_again() {
     assert_eq!(judge_in(20, &file(1, &[], &[&code])), refused(12, 15));
 }
 
-#[test]
-fn the_discipline_of_each_kind() {
-    let (read, write) = (
-        Read { to: 0, variable: 0 },
-        Write {
-            from: 0,
-            variable: 0,
-        },
-    );
-    let own_to_1 = [1, 1, 0, 0, 0, 0];
-    let fixed = [2, 0, 0, 0, 0, 0];
-    let judged = |variable, code: &[&[_]]| judge_in(20, &file(1, &[variable], code));
-    assert_eq!(
-        judged(own_to_1, &[&[], &[read, write]]),
-        Ok(vec![1, 1, 1, 1])
-    );
-    assert_eq!(judged(own_to_1, &[&[read], &[]]), refused(9, 13));
-    assert_eq!(judged(fixed, &[&[read], &[read]]), Ok(vec![1, 1, 1, 1]));
-    assert_eq!(judged(fixed, &[&[write]]), refused(9, 13));
-}
-
-// "A WRITE counts wherever it stands in the other thread's code, reached or not; a thread's own
-// WRITEs do not count."
-
 const READ: Instruction = Read { to: 0, variable: 0 };
 const WRITE: Instruction = Write {
     from: 0,
     variable: 0,
 };
+
+#[test]
+fn the_discipline_of_each_kind() {
+    let own_to_1 = [1, 1, 0, 0, 0, 0];
+    let fixed = [2, 0, 0, 0, 0, 0];
+    let judged = |variable, code: &[&[_]]| judge_in(20, &file(1, &[variable], code));
+    assert_eq!(
+        judged(own_to_1, &[&[], &[READ, WRITE]]),
+        Ok(vec![1, 1, 1, 1])
+    );
+    assert_eq!(judged(own_to_1, &[&[READ], &[]]), refused(9, 13));
+    assert_eq!(judged(fixed, &[&[READ], &[READ]]), Ok(vec![1, 1, 1, 1]));
+    assert_eq!(judged(fixed, &[&[WRITE]]), refused(9, 13));
+}
+
+// "A WRITE counts wherever it stands in the other thread's code, reached or not; a thread's own
+// WRITEs do not count."
 
 /// The report byte of a READ of an open variable, the first instruction of a thread, in a program
 /// of such code.

@@ -8,7 +8,7 @@
 
 mod common;
 #[path = "common/plain_judge.rs"]
-#[allow(dead_code)] // the lists are for other tests too
+#[allow(dead_code)] // some of the rules are for another test
 mod plain_judge;
 
 use std::collections::HashSet;
@@ -279,9 +279,9 @@ fn has_counterexample(rule: Rule) -> bool {
     })
 }
 
-/// The rules for open variables are not stricter than need be: what a more lenient one accepts can
-/// have lists without an uninterrupted one. (But a WRITE that no run comes to does no harm; that it
-/// counts spares the judge to know what is reached.)
+/// But for WRITEs that no run comes to, the rule for open variables is not stricter than need be:
+/// what a more lenient one accepts can have lists without an uninterrupted one. Those do no harm;
+/// since they count, the judge need not know what is reached.
 #[test]
 fn more_lenient_rules_are_unsound() {
     for rule in TOO_LENIENT {

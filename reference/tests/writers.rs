@@ -1,6 +1,6 @@
 //! What a READ of an open variable is depends on the code of all threads. Here generated files are
 //! judged a second time, plainly: with the right rule for READ and WRITE of open variables the two
-//! agree, and each wrong rule that looks reasonable is told from it.
+//! agree, and each wrong rule that looks reasonable gives other answers.
 
 mod common;
 #[path = "common/plain_judge.rs"]
@@ -40,13 +40,13 @@ fn is_t(answer: &Result<Vec<u8>, Refusal>) -> bool {
 /// How often a wrong rule refuses by 13 what is accepted, accepts what is refused by 13, and reports
 /// otherwise on what both accept.
 #[derive(Debug, Default)]
-struct Told {
+struct Differences {
     refused: u32,
     accepted: u32,
     reported: u32,
 }
 
-impl Told {
+impl Differences {
     fn add(&mut self, right: &Result<Vec<u8>, Refusal>, wrong: &Result<Vec<u8>, Refusal>) {
         self.refused += u32::from(right.is_ok() && is_t(wrong));
         self.accepted += u32::from(is_t(right) && wrong.is_ok());
@@ -54,35 +54,48 @@ impl Told {
     }
 }
 
-/// What files tell of these rules.
-fn told_of(rules: &[Rule]) -> Vec<Told> {
-    let mut told: Vec<Told> = rules.iter().map(|_| Told::default()).collect();
+/// Where these rules differ from the right one on generated files.
+fn differences_of(rules: &[Rule]) -> Vec<Differences> {
+    let mut all: Vec<Differences> = rules.iter().map(|_| Differences::default()).collect();
     each_sound_file(|program, right| {
-        for (rule, told) in rules.iter().zip(&mut told) {
-            told.add(right, &judged_with(*rule, program));
+        for (rule, differences) in rules.iter().zip(&mut all) {
+            differences.add(right, &judged_with(*rule, program));
         }
     });
-    rules.iter().zip(&told).for_each(|(rule, told)| {
-        println!("{}: {told:?}", rule.name);
-        assert!(told.reported >= 500, "{}: {told:?}", rule.name);
+    rules.iter().zip(&all).for_each(|(rule, differences)| {
+        println!("{}: {differences:?}", rule.name);
+        assert!(
+            differences.reported >= 500,
+            "{}: {differences:?}",
+            rule.name
+        );
     });
-    told
+    all
 }
 
 #[test]
-fn generated_files_tell_the_rules_that_are_too_strict() {
+fn rules_that_are_too_strict_refuse_more() {
     let rules = [&TOO_STRICT[..], &[EVERY_READ_IS_A]].concat();
-    for told in told_of(&rules) {
-        assert!(told.refused >= 500 && told.accepted == 0, "{told:?}");
+    for found in differences_of(&rules) {
+        assert!(found.refused >= 500 && found.accepted == 0, "{found:?}");
     }
 }
 
 #[test]
-fn generated_files_tell_the_rules_that_are_too_lenient() {
+fn rules_that_are_too_lenient_accept_more() {
     let rules = [&TOO_LENIENT[..], &[ONLY_REACHED]].concat();
-    for told in told_of(&rules) {
-        assert!(told.accepted >= 50 && told.refused == 0, "{told:?}");
+    for found in differences_of(&rules) {
+        assert!(found.accepted >= 50 && found.refused == 0, "{found:?}");
     }
+}
+
+/// The example of a receiver with its frame number is accepted only by the new rule.
+#[test]
+fn version_1_0_refused_the_frame_number() {
+    let file = include_bytes!("../../examples/frame_number.bin");
+    let program = Program::read(file).unwrap();
+    assert!(judge_in(8_200, file).is_ok());
+    assert!(is_t(&judged_with(EVERY_READ_IS_A, &program)));
 }
 
 /// Who writes an open variable, seen from a thread that reads it.

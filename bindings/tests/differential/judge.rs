@@ -6,8 +6,8 @@ use hogunlas_reference::report_length;
 
 use crate::support::{lend, Tally};
 
-/// `reference/tests/writers.rs` shows which wrong rules the first of these files tell from the
-/// right ones.
+/// On the first 20,000 of these files `reference/tests/writers.rs` shows wrong rules for open
+/// variables to give other answers than the right one.
 const FILES: u64 = 100_000;
 
 /// Compares one call, and answers what both said.

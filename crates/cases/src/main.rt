@@ -20,6 +20,7 @@ fn main() {
     mistakes::left_joined_with_right();
     mistakes::locks_of_the_then_part();
     mistakes::writers_of_an_open_variable();
+    mistakes::one_writer();
     moves::results();
     moves::places();
 }

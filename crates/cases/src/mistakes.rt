@@ -52,7 +52,8 @@ pub fn locks_of_the_then_part() {
 }
 
 // A READ of an open variable is A only because another thread has a WRITE of it: a thread's own does not count, and one before, one
-// behind and one that is not reached do. No lock, and in each thread READ r2 v0 or WRITE r2 v0; that which is not reached stands behind IF r0 2.
+// behind and one that is not reached do. Files of two threads have no lock, and READ r2 v0 or WRITE r2 v0 in each; the one that is not reached
+// stands behind IF r0 2.
 pub fn writers_of_an_open_variable() {
     code::judge(b"READ with an own WRITE: ", OPEN, &[READ, WRITE]);
     let behind =
@@ -64,4 +65,14 @@ pub fn writers_of_an_open_variable() {
     let not_reached =
         b"\x01\x00\x02\x00\x06\x03\x00\x00\x00\x00\x05\x00\x04\x10\x02\x00\x00\x00\x10\x30\x00\x00\x02\x11\x02\x00\x00\x31\x00\x00\x01\x35\x00\x00\x00";
     show::judge(b"READ with a WRITE that is not reached: ", not_reached);
+}
+
+// Where one thread alone writes, its own READ is B and another thread's is A, and its WRITEs are A: a block of two is refused.
+pub fn one_writer() {
+    let reads =
+        b"\x01\x00\x02\x00\x06\x03\x00\x00\x00\x00\x05\x00\x08\x11\x02\x00\x00\x10\x02\x00\x00\x00\x04\x10\x02\x00\x00";
+    show::judge(b"one writer, and READs of both threads: ", reads);
+    let writes =
+        b"\x01\x00\x02\x00\x0C\x03\x00\x00\x00\x00\x05\x03\x00\x00\x00\x00\x05\x00\x10\x34\x00\x00\x03\x11\x00\x00\x00\x11\x00\x01\x00\x35\x00\x00\x00\x00\x08\x10\x00\x00\x00\x10\x01\x01\x00";
+    show::judge(b"one writer, and a block of two WRITEs: ", writes);
 }

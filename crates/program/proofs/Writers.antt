@@ -1,17 +1,17 @@
--- A WRITE that is found in a code, and a code that has one. Assumes nothing.
---     has-write, write-found       a code has a WRITE of v exactly if one stands at a place of it
+-- The threads that write a variable. Assumes nothing.
+--     has-write                    a code has the WRITE that stands at a place of it
 --     written-by, writer-found     another thread's code has one exactly if some code other than c does
 use Prim.Native.Nat.{ℕ, zero, suc, _+_, _<_}
-use mathlib.Core.Path.{_≡_, refl, ap}
+use mathlib.Core.Path.{_≡_, refl}
 use mathlib.Core.Logic.{_≢_}
 use mathlib.Core.Bool.{Bool, true, false, not, _&&_, _||_, and-eq-true-iff, or-true}
 use mathlib.Core.List.{List, [], _∷_}
 use lib.Dec.{eqb}
 use lib.ListN.{length, getD}
 use native.Mathlib.Omega.{arith}
-use borrow.Author.Tests.{eqb-true, eqb-false, eq-eqb, ne-eqb, not-true}
+use borrow.Author.Tests.{eqb-false, eq-eqb, ne-eqb, not-true}
 use Rattle.program.specs.Layout.{Program, CodeSection, codeOf}
-use Rattle.program.specs.View.{Access, none, reads, writes, takes, gives, accessOf}
+use Rattle.program.specs.View.{writes, accessOf}
 use Rattle.program.specs.Writers.{isWriteOf, hasWrite, writtenFrom, writtenByOther}
 use Rattle.program.specs.Internal.Sections.{noSection}
 use Rattle.program.specs.declared.instruction.Instruction.{Instruction}
@@ -22,30 +22,11 @@ or-cases : {C : Type 0} (a b : Bool) → (a || b) ≡ true → (a ≡ true → C
 or-cases true b e first second = first refl
 or-cases false b e first second = second e
 
--- a WRITE of v at a place of a code
-abbrev pub WriteIn : (v : ℕ) → List Instruction → Type 0
-WriteIn v is = (q : ℕ) × (a : ℕ) × (q < length is) × (accessOf (getD is q End) ≡ writes v a)
-
 pub has-write : (is : List Instruction) (q v a : ℕ) → accessOf (getD is q End) ≡ writes v a → hasWrite v is ≡ true
 unfolding hasWrite accessOf
 has-write [] q v a e = differ cc
 has-write (i ∷ is) zero v a e = rw (e, eq-eqb v v refl)
 has-write (i ∷ is) (suc q) v a e = rw (has-write is q v a e) (or-true (isWriteOf v (accessOf i)))
-
-is-write : (v : ℕ) (x : Access) → isWriteOf v x ≡ true → (a : ℕ) × (x ≡ writes v a)
-is-write v none e = differ cc
-is-write v (reads w) e = differ cc
-is-write v (writes w a) e = (a, ap (λ (y : ℕ). writes y a) (eqb-true w v e))
-is-write v (takes k) e = differ cc
-is-write v (gives k) e = differ cc
-
-pub write-found : (is : List Instruction) (v : ℕ) → hasWrite v is ≡ true → WriteIn v is
-unfolding hasWrite
-write-found [] v e = differ cc
-write-found (i ∷ is) v e =
-    or-cases (isWriteOf v (accessOf i)) (hasWrite v is) e
-    (λ h. let w = is-write v (accessOf i) h in (0, w .0, omega arith, w .1))
-    (λ h. let w = write-found is v h in (suc (w .0), w .1, omega (arith, w .2), w .3))
 
 -- one of the codes from number n on
 written-from : (c v n : ℕ) (xs : List CodeSection) (u : ℕ) → n + u ≢ c → hasWrite v (getD xs u noSection .code) ≡ true → writtenFrom c v n xs ≡ true

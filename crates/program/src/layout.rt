@@ -72,7 +72,7 @@ fn variable_section(s: &[u8], c: Cursor, locks: usize, threads: usize) -> Field
     }
 }
 
-// One thread's code section: all its instructions, then its nesting.
+// One thread's code section: all its instructions, then its nesting. The variables that it writes are marked with its bit.
 fn code_section(
     rows: &[u8],
     limits: &[u16],
@@ -104,7 +104,7 @@ fn code_section(
     }
 }
 
-// The code sections of n threads: how many instructions they have together.
+// The code sections of n threads: how many instructions they have together. Thread t's bit is 1 shifted by t.
 fn code_sections(
     rows: &[u8],
     limits: &[u16],

@@ -1,7 +1,7 @@
--- Demand 3 does not hold of every program that keeps the lock discipline: of the file in `specs/Internal/Counterexample.antt` and its list,
--- what demand 3 would promise does not exist, so the file has to be refused. Computed. Assumes nothing.
---     never-reached              a search that finds nothing
+-- Demand 3 does not hold of every sound file: of the one in `specs/Internal/Counterexample.antt` and its list the premises hold, but what demand 3
+-- would promise does not exist. So the file has to be refused. Computed. Assumes nothing.
 --     two-writes-refused         the file is sound, and is refused with 13
+--     two-writes-threads         the list's entries are numbers of its threads
 --     two-writes-nobody          after the list no thread stands inside a block
 --     two-writes-unserialized    and no uninterrupted list ends alike
 use Prim.Native.Nat.{ℕ, zero, suc, _<_}
@@ -25,7 +25,8 @@ use Rattle.machine.specs.State.{State, start}
 use Rattle.machine.specs.Step.{outcome, step}
 use Rattle.machine.specs.declared.thread.Outcome.the-variants.{Moved}
 use Rattle.machine.proofs.Definitions.{running-definitions}
-use Rattle.soundness.specs.Demand.{Serialized}
+use Rattle.soundness.specs.Demand.{ThreadsOf, Serialized}
+use Rattle.soundness.proofs.Example.{all-below}
 use Rattle.soundness.specs.Internal.Counterexample.{twoWrites, twoWritesProgram, betweenWrites, seesBetween, mayMove, never}
 
 -- ---- a search that finds nothing
@@ -50,7 +51,7 @@ module _ (p : Program) (two : p .threads ≡ 2) (test : State → Bool) where
       let first = and-yes (not (test s)) (onward n s 0 1) (both .0) in
       (first .0, first .1, both .1)
 
-  pub never-reached : (n : ℕ) (ts : List ℕ) (r : Run) → T (never p test n (r .state)) → Entries 2 ts → UninterruptedFrom p (r .state) ts
+  never-reached : (n : ℕ) (ts : List ℕ) (r : Run) → T (never p test n (r .state)) → Entries 2 ts → UninterruptedFrom p (r .state) ts
       → test (runFrom p r ts .state) ≡ true → ⊥
   unfolding never runFrom UninterruptedFrom Entries
   never-reached zero ts r e threads h found = e
@@ -74,6 +75,10 @@ definitions = tt
 pub two-writes-refused : (sound twoWrites ≡ fine twoWritesProgram) × (accept twoWrites ≡ refused (NotAtomic 31))
 unfolding definitions
 two-writes-refused = (refl, refl)
+
+pub two-writes-threads : ThreadsOf twoWritesProgram betweenWrites
+unfolding definitions
+two-writes-threads = all-below 2 betweenWrites tt
 
 pub two-writes-nobody : NobodyInside twoWritesProgram (run twoWritesProgram betweenWrites .state)
 unfolding definitions

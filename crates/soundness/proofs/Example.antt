@@ -35,11 +35,11 @@ unfolding judging-definitions running-definitions writesBelow withWriter judgeBe
 definitions = tt
 
 -- each entry is below n
-abbrev allBelow : ℕ → List ℕ → Bool
+abbrev pub allBelow : ℕ → List ℕ → Bool
 allBelow n [] = true
 allBelow n (t ∷ ts) = ltb t n && allBelow n ts
 
-all-below : (n : ℕ) (ts : List ℕ) → T (allBelow n ts) → (i : ℕ) → i < length ts → getD ts i 0 < n
+pub all-below : (n : ℕ) (ts : List ℕ) → T (allBelow n ts) → (i : ℕ) → i < length ts → getD ts i 0 < n
 all-below n [] h i l = absurd (omega arith)
 all-below n (t ∷ ts) h zero l = ltb→lt t n (and-yes (ltb t n) (allBelow n ts) h .0)
 all-below n (t ∷ ts) h (suc i) l = all-below n ts (and-yes (ltb t n) (allBelow n ts) h .1) i (omega arith)

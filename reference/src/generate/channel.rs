@@ -33,7 +33,7 @@ impl Channel {
     }
 
     /// Whether no other thread may write it, so that a READ is B.
-    pub fn is_alone(self, thread: u8) -> bool {
+    pub fn no_other_writes(self, thread: u8) -> bool {
         self.writers & !(1 << thread) == 0
     }
 }

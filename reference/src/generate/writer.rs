@@ -211,7 +211,7 @@ impl<'r> Writer<'r> {
                 0 => self.held.holds(variable.g),
                 1 => variable.g == self.scope.thread,
                 2 => true,
-                _ => self.reads_alone(variable) || !self.only_left_movers(),
+                _ => self.no_other_writes(variable) || !self.only_left_movers(),
             }
     }
 
@@ -226,13 +226,13 @@ impl<'r> Writer<'r> {
     }
 
     /// Whether a READ of an open variable is B.
-    fn reads_alone(&self, variable: Variable) -> bool {
-        variable.channel.is_alone(self.scope.thread)
+    fn no_other_writes(&self, variable: Variable) -> bool {
+        variable.channel.no_other_writes(self.scope.thread)
     }
 
     fn read_from(&mut self, number: u8) {
         let (variable, to) = (self.variable(number), self.register());
-        if variable.kind == 3 && !self.reads_alone(variable) {
+        if variable.kind == 3 && !self.no_other_writes(variable) {
             self.commit();
         }
         self.code.push(Read {

@@ -67,7 +67,17 @@ pub const TOO_STRICT: [Rule; 2] = [
 ];
 
 /// Make too many accesses B, and so accept blocks of which lists have no uninterrupted one.
-pub const TOO_LENIENT: [Rule; 5] = [
+pub const TOO_LENIENT: [Rule; 7] = [
+    Rule {
+        name: "no WRITE counts",
+        read_is_b: |_, _| true,
+        ..RIGHT
+    },
+    Rule {
+        name: "only the thread before counts",
+        read_is_b: |writers, thread| writers.iter().all(|writer| writer.thread + 1 != thread),
+        ..RIGHT
+    },
     Rule {
         name: "only earlier threads count",
         read_is_b: |writers, thread| writers.iter().all(|writer| writer.thread >= thread),

@@ -1,7 +1,8 @@
 -- The table of writers that walk 1 fills (src/walk.rt): a byte for each variable, with a bit for each code that has a WRITE of it.
 --     writeRow                the row of WRITE
 --     besides                 a byte has a bit besides one
---     marked, markedAll       an instruction, and all of a code, with this bit
+--     markedAt, marked, markedAll
+--                             a variable, an instruction's, and those of a code, with this bit
 --     markedCodes             the codes from number n on, each with its bit
 --     writerTable             all codes of a program, from an empty table
 --     codesIn                 a file's codes
@@ -30,7 +31,7 @@ use Rattle.program.specs.declared.walk.Walked.the-variants.{Nested, Inva
 abbrev pub writeRow : ℕ
 writeRow = 7
 
--- a byte has a bit besides this one
+-- with this bit added it is more than the bit alone
 abbrev pub besides : (bit byte : ℕ) → Bool
 besides bit byte = not (eqb (bitOr byte bit) bit)
 

@@ -50,7 +50,7 @@ unfoldable pub limitsOf : (locks variables : ℕ) → List ℕ
 limitsOf locks variables =
     column locks variables (kinds (λ r. r .a)) ++ column locks variables (kinds (λ r. r .b)) ++ column locks variables (kinds (λ r. r .c))
 
--- the limits of some numbers of locks and variables
+-- the limits of some number of locks and of a number of variables that a file may have
 abbrev pub AreLimits : List ℕ → Type 0
 AreLimits limits = (locks : ℕ) × (variables : ℕ) × (variables ≤ variableLimit) × (limits ≡ limitsOf locks variables)
 

@@ -55,7 +55,7 @@ isMoved Idle = false
 unfoldable pub mayMove : Program → State → (t u : ℕ) → Bool
 mayMove p s t u = isMoved (outcome p t s) && not (inside p s u)
 
--- no uninterrupted list of threads 0 and 1 leads from the state to one in which the test holds, and each ends within n entries
+-- no uninterrupted list of threads 0 and 1 leads from the state to one in which the test holds, and each ends in fewer than n entries
 unfoldable pub never : Program → (State → Bool) → ℕ → State → Bool
 never p test zero s = false
 never p test (suc n) s =
