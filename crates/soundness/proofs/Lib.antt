@@ -21,7 +21,7 @@
 --     Accepted         an accepted file's program is annotated
 --     Demand           demand 3
 --     Example          it is not empty
---     Counterexample   a program of which it does not hold, and which is refused
+--     Unserialized     a program of which it does not hold, and which is refused
 pub mod Prefix
 pub mod Places
 pub mod Labelled
@@ -40,4 +40,4 @@ pub mod Serialize
 pub mod Accepted
 pub mod Demand
 pub mod Example
-pub mod Counterexample
+pub mod Unserialized

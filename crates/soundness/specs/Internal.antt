@@ -1,5 +1,4 @@
 -- What only the proof of demand 3 speaks of.
---     Counterexample   a file of which demand 3 does not hold
 --     Example          files and lists of which demand 3 says something
 --     Prefix           where a place stands in its block
 --     Places           a list read place by place
@@ -10,7 +9,7 @@
 --     Instance         the machine as an instance of reduction's interface
 --     Traced           a list as a trace, and back
 --     WellNested       what is asked of a program
-pub mod Counterexample
+--     Unserialized     a file of which demand 3 does not hold
 pub mod Example
 pub mod Prefix
 pub mod Places
@@ -21,3 +20,4 @@ pub mod Access
 pub mod Instance
 pub mod Traced
 pub mod WellNested
+pub mod Unserialized

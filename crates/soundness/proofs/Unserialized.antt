@@ -1,9 +1,10 @@
--- Demand 3 does not hold of every sound file: of the one in `specs/Internal/Counterexample.antt` and its list the premises hold, but what demand 3
--- would promise does not exist. So the file has to be refused. Computed. Assumes nothing.
+-- Demand 3 does not hold of every sound file: of the one in `specs/Internal/Unserialized.antt` and its list there is no uninterrupted list with the
+-- same end. So the file has to be refused. Computed. Assumes nothing.
 --     two-writes-refused         the file is sound, and is refused with 13
 --     two-writes-threads         the list's entries are numbers of its threads
 --     two-writes-nobody          after the list no thread stands inside a block
 --     two-writes-unserialized    and no uninterrupted list ends alike
+--     two-writes-to-refuse       no judging that has demand 3 accepts the file
 use Prim.Native.Nat.{ℕ, zero, suc, _<_}
 use native.Mathlib.Omega.{arith}
 use mathlib.Core.Path.{_≡_, refl, sym, ap, _∙_, subst}
@@ -27,7 +28,7 @@ use Rattle.machine.specs.declared.thread.Outcome.the-variants.{Moved}
 use Rattle.machine.proofs.Definitions.{running-definitions}
 use Rattle.soundness.specs.Demand.{ThreadsOf, Serialized}
 use Rattle.soundness.proofs.Example.{all-below}
-use Rattle.soundness.specs.Internal.Counterexample.{twoWrites, twoWritesProgram, betweenWrites, seesBetween, mayMove, never}
+use Rattle.soundness.specs.Internal.Unserialized.{twoWrites, twoWritesProgram, betweenWrites, seesBetween, mayMove, never}
 
 -- ---- a search that finds nothing
 
@@ -105,3 +106,10 @@ unfolding run Uninterrupted Entries
 two-writes-unserialized r =
     never-reached twoWritesProgram two-threads seesBetween 7 (r .serial) _ never-seen
     (λ i h. subst (λ (k : ℕ). getD (r .serial) i 0 < k) two-threads (r .threads i h)) (r .uninterrupted) (ap seesBetween (r .same-state) ∙ seen)
+
+-- whatever accepts only programs of which demand 3 holds does not accept this one
+pub two-writes-to-refuse : (accepts : Program → Type 0)
+    → ((p : Program) → accepts p → (list : List ℕ) → ThreadsOf p list → NobodyInside p (run p list .state) → Serialized p list)
+    → accepts twoWritesProgram → ⊥
+two-writes-to-refuse accepts demand a =
+    two-writes-unserialized (demand twoWritesProgram a betweenWrites two-writes-threads two-writes-nobody)
