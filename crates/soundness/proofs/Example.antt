@@ -1,7 +1,7 @@
 -- Demand 3 is not empty: its premises hold of two files, each with a list that interleaves two blocks. Computed. Assumes nothing.
 --     adders-sum                            after the list both threads have added 1
 --     adders-interrupted, frame-interrupted the premises hold, and the list is not itself the one that is promised
---     serialized-other                      the list that is promised is another
+--     promised, promised-other              what demand 3 then promises, and that it is another list
 --     frame-report                          thread 0's READ of the variable that it alone writes is B, and so its block, which begins with
 --                                           it and takes a lock later, is A
 --     frame-refused-before                  by the rule of the standard's version 1.0 the same file is refused
@@ -26,7 +26,8 @@ use Rattle.machine.specs.Run.{run}
 use Rattle.machine.specs.State.{threadOf}
 use Rattle.machine.specs.Block.{NobodyInside, Uninterrupted}
 use Rattle.machine.proofs.Definitions.{running-definitions}
-use Rattle.soundness.specs.Demand.{ThreadsOf, Serialized}
+use Rattle.soundness.proofs.Demand.{demand3}
+use Rattle.soundness.specs.Demand.{ThreadsOf, Serialized, Demand3}
 use Rattle.soundness.specs.Internal.Example.{adder, adders, interleaving, counter, reader, frame, secondWriter, frameList, frameReport, Interrupted, acceptedOf}
 
 -- all definitions open
@@ -129,6 +130,9 @@ second-writer-refused = refl
 
 -- ---- what is promised
 
--- the list that demand 3 promises is another
-pub serialized-other : (file list : List ℕ) (x : Interrupted file list) (r : Serialized (x .answer .program) list) → r .serial ≢ list
-serialized-other file list x r e = x .interrupted (subst (Uninterrupted (x .answer .program)) e (r .uninterrupted))
+pub promised : (file list : List ℕ) (x : Interrupted file list) → Serialized (x .answer .program) list
+unfolding Demand3
+promised file list x = demand3 file (x .answer) (x .accepted) list (x .threads) (x .nobody)
+
+pub promised-other : (file list : List ℕ) (x : Interrupted file list) → promised file list x .serial ≢ list
+promised-other file list x e = x .interrupted (subst (Uninterrupted (x .answer .program)) e (promised file list x .uninterrupted))
