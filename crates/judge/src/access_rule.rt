@@ -53,7 +53,7 @@ fn written_by_other(writers: u8, code: usize) -> bool
     (writers | own) != own
 }
 
-// An access of a variable of this kind; an open one may race.
+// An access of a variable of this kind. That it may race counts for an open one only; a WRITE of one always may.
 fn rule_of(kind: Kind, code: usize, writing: bool, races: bool) -> u8
     ensures { λ r. ⌜ r ≡ ruleOf kind code writing races ⌝ }
 {
@@ -65,7 +65,7 @@ fn rule_of(kind: Kind, code: usize, writing: bool, races: bool) -> u8
     }
 }
 
-// The rules of all variables for one code.
+// The rules of all variables for one code, by the writers of each.
 pub fn fill_rules(
     s: &[u8],
     l: Layout,
