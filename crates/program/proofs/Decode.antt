@@ -10,9 +10,9 @@
 --     row-plain           an instruction of a row without its bit is no opener or closer
 --     row-form            one of a row with its bit has the row's form
 --     instruction-access  locks and variables below their counts, at any offset, valid or not
+--     access-below        ... of four bytes
 --     each-row            what a computed test says of all rows
 --     or-right            the second of two tests holds where the first does not
---     access-below        ... of an instruction's four bytes
 --     access-wider        what lies below two counts lies below larger ones
 --     rows-at             the table of rows, by op code
 use Prim.Native.Nat.{ℕ, zero, suc, _+_, _-_, _*_, _/_, _%_, _^_, _<_, _≤_}
