@@ -2,7 +2,7 @@
 --     effect-of       an instruction has its own effect
 --     does-branch     what IF and WHILE do, from the register's test
 --     effect-thread   the thread after an instruction of this effect
---     registers-kept  registers that a Move does not change
+--     registers-moved the registers after a Move
 --     Accesses        what an instruction that does not wait does to what the threads share
 --     accesses        ... by its access
 --     thread-moved    the thread laid into its place has moved by the instruction
@@ -45,12 +45,11 @@ pub effect-thread : {i : Instruction} {th : Thread} {a : Access} {result : ℕ �
 unfolding threadAfter registersAfter
 effect-thread e x = rw (e .goes, e .results x)
 
--- registers that a Move does not change
-pub registers-kept : (i : Instruction) (m : Move) (x : ℕ) (before after : Thread) {a : Access} {next : ℕ} → MovedBy m x before after
-    → Does i (before .registers) (before .place) m → Effect i (before .registers) (before .place) a (λ _. keeps) next
-    → after .registers ≡ before .registers
-unfolding stored
-registers-kept i m x before after h d e = ap (λ (th : Thread). th .registers) (h i d ∙ effect-thread e x)
+-- the registers after a Move: those with its result stored
+pub registers-moved : (i : Instruction) (m : Move) (x : ℕ) (before after : Thread) {a : Access} {result : ℕ → Result} {next : ℕ} → MovedBy m x before after
+    → Does i (before .registers) (before .place) m → Effect i (before .registers) (before .place) a result next
+    → after .registers ≡ stored (result x) (before .registers)
+registers-moved i m x before after h d e = ap (λ (th : Thread). th .registers) (h i d ∙ effect-thread e x)
 
 -- an instruction that does not wait: its outcome, the variables and the locks afterwards, and the value that a READ finds
 abbrev pub Accesses : Instruction → (t : ℕ) (r vs ks vs′ ks′ : List ℕ) (x : ℕ) → Type 0

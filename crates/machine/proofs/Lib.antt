@@ -1,6 +1,7 @@
 -- Laws that belong to no one function.
 --     Definitions  the definitions of running open
---     Outcome      every entry is counted once
+--     Names        how often a list names a thread
+--     Sums         every entry is counted once, for its thread
 --     Block        where a thread stands inside a block
 --     Fields       what a sound file's instruction reaches, and where it goes
 --     Kept         the state in arrays, through one entry
@@ -11,7 +12,8 @@
 --     StateBytes   the state's bytes, as loops write them
 --     Shape        how long the lists of a state are, and how many bytes it has
 pub mod Definitions
-pub mod Outcome
+pub mod Names
+pub mod Sums
 pub mod Block
 pub mod Fields
 pub mod Kept

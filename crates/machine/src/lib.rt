@@ -1,4 +1,5 @@
 // The step machine (the standard, "The step machine").
+pub mod counts;
 pub mod moves;
 pub mod prepare;
 pub mod run;

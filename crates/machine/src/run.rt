@@ -1,4 +1,6 @@
 // A list of entries, run from the start (the standard, "The step machine").
+use crate::counts::Counts;
+use crate::counts::counts_of;
 use crate::moves::Move;
 use crate::moves::move_of;
 use crate::prepare::initial_values;
@@ -15,6 +17,7 @@ use program::limits::LOCK_LIMIT;
 use program::limits::REGISTER_COUNT;
 use program::limits::THREAD_LIMIT;
 use program::limits::VARIABLE_LIMIT;
+ghost use mathlib.Core.Bool.{true};
 ghost use mathlib.Core.Path.{_≡_};
 ghost use mathlib.Core.List.{[], _++_};
 ghost use Prim.Native.Nat.{_≤_, _<_};
@@ -22,7 +25,7 @@ ghost use lib.ListN.{length, getD, set, drop};
 ghost use Rattle.program.specs.Choice.{choose};
 ghost use Rattle.program.specs.View.{accessOf};
 ghost use Rattle.program.specs.Layout.{programOf};
-ghost use Rattle.program.specs.Limits.{lockLimit, threadLimit, variableLimit, sizeOfState};
+ghost use Rattle.program.specs.Limits.{listLimit, lockLimit, threadLimit, variableLimit, sizeOfState};
 ghost use Rattle.program.specs.Internal.Bounds.{largestPlace};
 ghost use Rattle.program.specs.Internal.Rows.{rowTable};
 ghost use Rattle.program.specs.Internal.Sections.{SectionTable};
@@ -32,17 +35,13 @@ ghost use Rattle.machine.specs.Step.{waits, variablesAfter, locksAfter, 
 ghost use Rattle.machine.specs.Step as Step;
 ghost use Rattle.machine.specs.Run.{Entries, runFrom, run};
 ghost use Rattle.machine.specs.Internal.Effect.{Doing, MovedBy};
-ghost use Rattle.machine.specs.Internal.Kept.{Kept, stateIn, threadIn, threadsIn, fromHere, moveThread};
+ghost use Rattle.machine.specs.Internal.Kept.{Ended, Kept, stateIn, threadIn, threadsIn, fromHere, moveThread};
 
-// How many entries moved, waited and were idle.
-pub struct Counts {
-    pub moved: usize,
-    pub waiting: usize,
-    pub idle: usize,
-}
+// After so many idle entries it is asked whether every thread is at its end.
+const IDLE_ENTRIES: usize = 256;
 
-// A thread's own part of a Move, where a READ finds `value`: its record is moved, and laid back into the arrays. Registers that the Move
-// does not change are not stored again.
+// A thread's own part of a Move, where a READ finds `value`: its record is moved, and laid back into the arrays. Of the registers only
+// the one that the Move sets is stored, with the Move's own value: a store of all eight costs more than the rest of the move.
 fn move_at(
     m: Move,
     value: u32,
@@ -61,10 +60,9 @@ fn move_at(
     };
     let moved = moved_thread(th, m, value);
     places[at] = moved.place;
-    let row = moved.registers;
     match m {
-        Move::Sets(_, _) => registers[at] = row,
-        Move::Reads(_, _) => registers[at] = row,
+        Move::Sets(a, x) => registers[at][a as usize] = x,
+        Move::Reads(a, _) => registers[at][a as usize] = value,
         Move::Writes(_, _) => {}
         Move::Takes(_) => {}
         Move::Gives(_) => {}
@@ -145,7 +143,39 @@ fn step(
     move_by(i, t, variables, locks, places, registers)
 }
 
-// The entries of a list, one after the other.
+// Whether each of so many threads is at its end.
+fn all_ended(threads: usize, counts: &[usize; CODE_LIMIT], places: &[usize; THREAD_LIMIT]) -> bool
+    requires { ⌜ threads ≤ threadLimit ⌝ }
+    ensures { λ r. ⌜ (r ≡ true → Ended threads (now (counts .entry)) (now (places .entry))) ⌝ }
+{
+    let mut t: usize = 0;
+    while t < threads {
+        if places[t] != counts[t] {
+            return false;
+        }
+        t += 1;
+    }
+    true
+}
+
+// Whether what is left of a list is known to be idle. Looked at seldom, so that an idle entry costs little.
+fn rest_is_idle(
+    idle: usize,
+    threads: usize,
+    counts: &[usize; CODE_LIMIT],
+    places: &[usize; THREAD_LIMIT],
+) -> bool
+    requires { ⌜ threads ≤ threadLimit ⌝ }
+    ensures { λ r. ⌜ (r ≡ true → Ended threads (now (counts .entry)) (now (places .entry))) ⌝ }
+{
+    if idle % IDLE_ENTRIES != 0 {
+        return false;
+    }
+    all_ended(threads, counts, places)
+}
+
+// The entries of a list, one after the other, until every thread is found to be at its end: then the rest is idle, and need only be
+// counted. The arrays that are counted in have elements of two sizes: of one size the compiler would use one store for both, and be slower.
 fn entries(
     rows: &[u8],
     s: &[u8],
@@ -157,19 +187,22 @@ fn entries(
     locks: &mut [u8; LOCK_LIMIT],
     places: &mut [usize; THREAD_LIMIT],
     registers: &mut [[u32; REGISTER_COUNT]; THREAD_LIMIT],
-) -> Counts
+) -> [Counts; THREAD_LIMIT]
     requires { ⌜ (now rows ≡ rowTable) × SectionTable (now s) l (now starts) (now counts) × Entries (l .threads) (now list)
-        × Kept l (now counts) (now variables) (now locks) (threadsIn (now places) (now registers)) ⌝ }
+        × (length (now list) ≤ listLimit) × Kept l (now counts) (now variables) (now locks) (threadsIn (now places) (now registers)) ⌝ }
     ensures { λ r. ⌜ runFrom (programOf (now (s .entry)) l)
         (fromHere l (now (variables .entry)) (now (locks .entry)) (threadsIn (now (places .entry)) (now (registers .entry)))) (now (list .entry))
         ≡ record { counts = r; state = stateIn l (now (variables .exit)) (now (locks .exit)) (threadsIn (now (places .exit)) (now (registers .exit))) } ⌝ }
     ensures { λ r. ⌜ Kept l (now (counts .entry)) (now (variables .exit)) (now (locks .exit)) (threadsIn (now (places .exit)) (now (registers .exit))) ⌝ }
 {
-    let mut waiting: usize = 0;
+    let mut moved = [0usize; THREAD_LIMIT];
+    let mut waiting = [0u32; THREAD_LIMIT];
     let mut idle: usize = 0;
+    let mut stop = list.len();
     let mut i: usize = 0;
-    while i < list.len() {
+    while i < stop {
         let t = list[i];
+        let at = t as usize;
         i += 1;
         match step(
             rows,
@@ -183,17 +216,17 @@ fn entries(
             places,
             registers,
         ) {
-            Outcome::Moved => {}
-            Outcome::Waiting => waiting += 1,
-            Outcome::Idle => idle += 1,
+            Outcome::Moved => moved[at] += 1,
+            Outcome::Waiting => waiting[at] += 1,
+            Outcome::Idle => {
+                idle += 1;
+                if rest_is_idle(idle, l.threads, counts, places) {
+                    stop = i;
+                }
+            }
         }
     }
-    let moved = list.len() - waiting - idle;
-    Counts {
-        moved: moved,
-        waiting: waiting,
-        idle: idle,
-    }
+    counts_of(list, &moved, &waiting, idle)
 }
 
 // A list, run from the start of a sound file's program: the counts, and the end state's bytes.
@@ -205,8 +238,8 @@ pub fn run_list(
     counts: &[usize; CODE_LIMIT],
     list: &[u8],
     out: &mut [u8],
-) -> Counts
-    requires { ⌜ (now rows ≡ rowTable) × SectionTable (now s) l (now starts) (now counts) × Entries (l .threads) (now list) × (sizeOfState (l .variables) (l .locks) (l .threads) ≤ length (now out)) ⌝ }
+) -> [Counts; THREAD_LIMIT]
+    requires { ⌜ (now rows ≡ rowTable) × SectionTable (now s) l (now starts) (now counts) × Entries (l .threads) (now list) × (length (now list) ≤ listLimit) × (sizeOfState (l .variables) (l .locks) (l .threads) ≤ length (now out)) ⌝ }
     ensures counts { λ r. ⌜ r ≡ run (programOf (now (s .entry)) l) (now (list .entry)) .counts ⌝ }
     ensures state { λ r. ⌜ now (out .exit) ≡ stateBytes (run (programOf (now (s .entry)) l) (now (list .entry)) .state) ++ drop (length (stateBytes (run (programOf (now (s .entry)) l) (now (list .entry)) .state))) (now (out .entry)) ⌝ }
 {

@@ -4,8 +4,6 @@ use program::limits::REGISTER_COUNT;
 ghost use mathlib.Core.Path.{_≡_};
 ghost use Prim.Native.Nat.{_+_, _≤_, _<_};
 ghost use lib.ListN.{set};
-ghost use lib.Dec.{eqb};
-ghost use Rattle.program.specs.Choice.{choose};
 ghost use Rattle.program.specs.Limits.{registerCount};
 ghost use Rattle.program.specs.Internal.Bounds.{largestPlace};
 ghost use Rattle.machine.specs.Internal.Effect.{Doing, MovedBy};
@@ -21,29 +19,14 @@ pub enum Outcome {
     Idle,
 }
 
-// One register of eight: x if it is the one named.
-fn chosen(a: u8, k: u8, x: u32, y: u32) -> u32
-    ensures { λ r. ⌜ r ≡ choose (eqb a k) x y ⌝ }
-{
-    if a == k { x } else { y }
-}
-
-// The registers with another value in one. Each is chosen, so that all eight are stored together: a store of one alone makes the
-// processor wait where they are next read together.
+// The registers with another value in one.
 fn with_register(registers: [u32; REGISTER_COUNT], a: u8, x: u32) -> [u32; REGISTER_COUNT]
     requires { ⌜ a < registerCount ⌝ }
     ensures { λ r. ⌜ r ≡ set registers a x ⌝ }
 {
-    [
-        chosen(a, 0, x, registers[0]),
-        chosen(a, 1, x, registers[1]),
-        chosen(a, 2, x, registers[2]),
-        chosen(a, 3, x, registers[3]),
-        chosen(a, 4, x, registers[4]),
-        chosen(a, 5, x, registers[5]),
-        chosen(a, 6, x, registers[6]),
-        chosen(a, 7, x, registers[7]),
-    ]
+    let mut changed = registers;
+    changed[a as usize] = x;
+    changed
 }
 
 // A thread at the next place, with another value in one register.

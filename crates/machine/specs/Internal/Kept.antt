@@ -7,17 +7,18 @@
 --     moveThread        one thread moves
 --     EightRegisters    each thread has eight registers
 --     Kept              what holds between two entries
+--     Ended             every thread is at its code's end
 use Prim.Native.Nat.{ℕ, _≤_, _<_}
 use mathlib.Core.Path.{_≡_}
 use mathlib.Core.List.{List, [], _∷_}
-use lib.ListN.{length, getD, set, take}
+use lib.ListN.{length, getD, set, take, replicate}
 use Rattle.program.specs.View.{accessOf}
 use Rattle.program.specs.Limits.{lockLimit, threadLimit, variableLimit, registerCount}
 use Rattle.program.specs.declared.layout.Layout.{Layout}
 use Rattle.program.specs.declared.instruction.Instruction.{Instruction}
 use Rattle.machine.specs.State.{State}
 use Rattle.machine.specs.Step.{valueRead, threadAfter}
-use Rattle.machine.specs.Run.{Run}
+use Rattle.machine.specs.Run.{Run, uncounted}
 use Rattle.machine.specs.declared.thread.Thread.{Thread}
 
 -- a thread, of the places and the registers of all
@@ -40,7 +41,7 @@ stateIn l variables locks threads = record {
 
 -- the state in arrays, nothing counted
 abbrev pub fromHere : Layout → (variables locks : List ℕ) → List Thread → Run
-fromHere l variables locks threads = record { counts = record { moved = 0; waiting = 0; idle = 0 }; state = stateIn l variables locks threads }
+fromHere l variables locks threads = record { counts = replicate threadLimit uncounted; state = stateIn l variables locks threads }
 
 -- what a read of an array of threads gives where there is none
 abbrev pub nobody : Thread
@@ -61,3 +62,7 @@ pub record Kept (l : Layout) (counts vs ks : List ℕ) (ths : List Thread) : Typ
   pub threads : length ths ≡ threadLimit
   pub places : (t : ℕ) → t < l .threads → getD ths t nobody .place ≤ getD counts t 0
   pub registers : EightRegisters ths
+
+-- each of so many threads is at its code's end, by the places of all and how many instructions each code has
+unfoldable pub Ended : (threads : ℕ) (counts places : List ℕ) → Type 0
+Ended threads counts places = (t : ℕ) → t < threads → getD places t 0 ≡ getD counts t 0

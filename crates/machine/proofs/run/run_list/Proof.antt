@@ -24,7 +24,7 @@ unfolding threadsIn fresh
 entries-requires c κs =
     let b = c .before .before .before .before .before .before .before .before .before .before in
     let v = c .before .before .before .before .initial-values in
-    (b .pre .0, b .pre .1, b .pre .2, kept-start (b .args .l) (b .args .counts .now) (v .last .1 .1 .0) _ (search needs) refl)
+    (b .pre .0, b .pre .1, b .pre .2, b .pre .3, kept-start (b .args .l) (b .args .counts .now) (v .last .1 .1 .0) _ (search needs) refl)
 
 -- `write_state(out, l, &variables, &locks, &places, &registers)`
 slice-aggregate-write-state : tie.Need-slice-aggregate-write-state
@@ -65,7 +65,7 @@ returns c =
       ap (λ (r : Run). r .counts) (sym e),
       c .before .before .write-state .ensures
           ∙ ap (λ (r : Run). sets (a .out .now) 0 (stateBytes (r .state))) (sym e)
-          ∙ sets-front (a .out .now) (stateBytes (run p (a .list .now) .state)) (omega (arith, length-end-file (a .s .now) (a .l) (a .list .now), b .pre .3)),
+          ∙ sets-front (a .out .now) (stateBytes (run p (a .list .now) .state)) (omega (arith, length-end-file (a .s .now) (a .l) (a .list .now), b .pre .4)),
     )
 
 pub run-list-spec : {M : Type 1} → statement M

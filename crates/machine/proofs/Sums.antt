@@ -1,0 +1,109 @@
+-- Every entry is counted once, for its thread. Assumes nothing.
+--     counted-once    by its outcome
+--     entries-head, entries-tail
+--                     a list of entries that begins with one
+--     counted-named   one entry, by the thread that it names
+--     length-counted, length-counts
+--                     an entry and a run keep how many threads are counted
+--     from-named, run-named
+--                     "A thread's three counts sum to how often the list names it"
+--     run-sum         "all together sum to the list's length"
+--     run-absent      "those of a thread that the file does not have are 0"
+use Prim.Native.Nat.{ℕ, zero, suc, _+_, _≤_, _<_}
+use mathlib.Core.Path.{_≡_, refl, sym, ap, _∙_}
+use mathlib.Core.List.{List, [], _∷_}
+use native.Mathlib.Decide.{ℕ-discrete}
+use native.Mathlib.Omega.{arith}
+use borrow.Author.Tests.{eq-eqb, ne-eqb}
+use lib.Dec.{eqb}
+use lib.ListN.{length, getD, set, length-set}
+use lib.Seq.{getD-set-same, getD-set-other}
+use Rattle.program.proofs.Lists.{getD-replicate-same}
+use Rattle.program.specs.Choice.{choose}
+use Rattle.program.specs.Layout.{Program}
+use Rattle.program.specs.Limits.{threadLimit}
+use Rattle.machine.specs.Step.{outcome}
+use Rattle.machine.specs.Run.{Entries, Run, uncounted, countsOf, counted, countedFor, runFrom, run, total, totals, timesNamed}
+use Rattle.machine.specs.declared.counts.Counts.{Counts}
+use Rattle.machine.specs.declared.thread.Outcome.{Outcome}
+use Rattle.machine.specs.declared.thread.Outcome.the-variants.{Moved, Waiting, Idle}
+
+pub counted-once : (o : Outcome) (c : Counts) → total (counted o c) ≡ total c + 1
+unfolding total
+counted-once Moved c = omega arith
+counted-once Waiting c = omega arith
+counted-once Idle c = omega arith
+
+-- the entries of a list that has one
+pub entries-head : (n t : ℕ) (ts : List ℕ) → Entries n (t ∷ ts) → t < n
+unfolding Entries
+entries-head n t ts e = e 0 (omega arith)
+
+pub entries-tail : (n t : ℕ) (ts : List ℕ) → Entries n (t ∷ ts) → Entries n ts
+unfolding Entries
+entries-tail n t ts e i h = e (suc i) (omega arith)
+
+-- one entry, of each thread
+pub length-counted : (t : ℕ) (o : Outcome) (cs : List Counts) → length (countedFor t o cs) ≡ length cs
+unfolding countedFor
+length-counted t o cs = length-set cs t _
+
+pub counted-named : (u : ℕ) (o : Outcome) (cs : List Counts) (t : ℕ) → t < length cs
+    → total (countsOf (countedFor u o cs) t) ≡ total (countsOf cs t) + choose (eqb u t) 1 0
+unfolding countedFor countsOf
+counted-named u o cs t h = elim (ℕ-discrete t u) [
+  | yes same ↦ rw (same, eq-eqb u u refl, getD-set-same cs u (counted o (getD cs u uncounted)) uncounted (rw same at h)) (counted-once o (getD cs u uncounted))
+  | no other ↦ rw (getD-set-other cs u t (counted o (getD cs u uncounted)) uncounted other, ne-eqb u t (λ e. other (sym e))) (omega arith)
+]
+
+module _ (p : Program) where
+  pub length-counts : (r : Run) (ts : List ℕ) → length (runFrom p r ts .counts) ≡ length (r .counts)
+  unfolding runFrom
+  length-counts r [] = refl
+  length-counts r (t ∷ ts) = length-counts _ ts ∙ length-counted t (outcome p t (r .state)) (r .counts)
+
+  pub from-named : (r : Run) (ts : List ℕ) (t : ℕ) → t < length (r .counts)
+      → total (countsOf (runFrom p r ts .counts) t) ≡ total (countsOf (r .counts) t) + timesNamed t ts
+  unfolding runFrom timesNamed
+  from-named r [] t h = omega arith
+  from-named r (u ∷ us) t h =
+      let o = outcome p u (r .state) in
+      from-named _ us t (omega (arith, length-counted u o (r .counts)))
+      ∙ ap (λ (n : ℕ). n + timesNamed t us) (counted-named u o (r .counts) t h)
+      ∙ omega arith
+
+  pub run-named : (ts : List ℕ) (t : ℕ) → t < threadLimit → total (countsOf (run p ts .counts) t) ≡ timesNamed t ts
+  unfolding run countsOf total
+  run-named ts t h = from-named _ ts t h ∙ rw (getD-replicate-same threadLimit t uncounted) (omega arith)
+
+-- all together
+totals-set : (cs : List Counts) (t : ℕ) (c : Counts) → t < length cs → total c ≡ total (countsOf cs t) + 1 → totals (set cs t c) ≡ totals cs + 1
+unfolding totals countsOf
+totals-set [] t c h e = absurd (let z : ⊥ = omega arith in z)
+totals-set (d ∷ cs) zero c h e = omega (arith, e)
+totals-set (d ∷ cs) (suc t) c h e = let f = totals-set cs t c (omega arith) e in omega (arith, f)
+
+module _ (p : Program) where
+  from-sum : (r : Run) (ts : List ℕ) → Entries (length (r .counts)) ts → totals (runFrom p r ts .counts) ≡ totals (r .counts) + length ts
+  unfolding runFrom countedFor
+  from-sum r [] h = omega arith
+  from-sum r (t ∷ ts) h =
+      let o = outcome p t (r .state) in
+      from-sum _ ts (rw (length-counted t o (r .counts)) (entries-tail _ t ts h))
+      ∙ ap (λ (n : ℕ). n + length ts) (totals-set (r .counts) t _ (entries-head _ t ts h) (counted-once o (countsOf (r .counts) t)))
+      ∙ omega arith
+
+  pub run-sum : (ts : List ℕ) → Entries threadLimit ts → totals (run p ts .counts) ≡ length ts
+  unfolding run totals total
+  run-sum ts h = from-sum _ ts h ∙ omega arith
+
+  from-absent : (r : Run) (ts : List ℕ) (n : ℕ) → Entries n ts → (t : ℕ) → n ≤ t → countsOf (runFrom p r ts .counts) t ≡ countsOf (r .counts) t
+  unfolding runFrom countedFor countsOf
+  from-absent r [] n h t k = refl
+  from-absent r (u ∷ us) n h t k =
+      from-absent _ us n (entries-tail n u us h) t k
+      ∙ getD-set-other (r .counts) u t _ uncounted (λ e. let z : ⊥ = omega (arith, entries-head n u us h) in z)
+
+  pub run-absent : (ts : List ℕ) (n : ℕ) → Entries n ts → (t : ℕ) → n ≤ t → countsOf (run p ts .counts) t ≡ uncounted
+  unfolding run countsOf
+  run-absent ts n h t k = from-absent _ ts n h t k ∙ getD-replicate-same threadLimit t uncounted
