@@ -1,16 +1,19 @@
--- Demand 3 (`demand3`); each thread's number of moves (`same-counts`). Assumes nothing.
-use Prim.Native.Nat.{ℕ}
-use mathlib.Core.Path.{_≡_, sym, ap, _∙_, subst}
-use mathlib.Core.List.{List}
+-- Demand 3 (`demand3`); the number of moves of all threads together (`same-total`). Assumes nothing.
+use Prim.Native.Nat.{ℕ, suc}
+use mathlib.Core.Path.{_≡_, refl, sym, ap, _∙_, subst}
+use mathlib.Core.List.{List, [], _∷_}
+use native.Mathlib.Omega.{arith}
 use lib.ListN.{length}
 use Rattle.judge.specs.Acceptance.{Accepted, accept, sound}
 use Rattle.judge.specs.Judging.{judgeProgram}
+use Rattle.machine.proofs.Sums.{length-counts}
+use Rattle.machine.specs.Run.{countsOf, run, allMoved}
+use Rattle.machine.specs.declared.counts.Counts.{Counts}
 use Rattle.program.proofs.Sound.{sound-file}
 use Rattle.program.specs.Answer.{fine}
 use Rattle.program.specs.Layout.{Program, programOf, reading}
 use Rattle.soundness.specs.Demand.{Serialized, Demand3}
 use Rattle.soundness.specs.Internal.Instance.{ThreadsAnnotated}
-use Rattle.soundness.specs.Naming.{Move, moves, movesOf}
 use Rattle.soundness.specs.Internal.WellNested.{WellNested}
 use Rattle.soundness.proofs.Accepted.{sound-nested, judged-annotated}
 use Rattle.soundness.proofs.Serialize.{serialized}
@@ -37,7 +40,16 @@ pub demand3 : (file : List ℕ) → Demand3 file
 unfolding Demand3
 demand3 file a e list threads nobody = serialized (a .program) (accepted-annotated file a e) list threads nobody
 
--- each thread's number of moves is the same
-pub same-counts : {p : Program} {list : List ℕ} (r : Serialized p list) (t : ℕ)
-    → length (movesOf t (moves p (r .serial))) ≡ length (movesOf t (moves p list))
-same-counts r t = ap (λ (l : List Move). length l) (r .same-moves t)
+-- all threads together: "The number of moves of all threads together is then the same too"
+together : (cs ds : List Counts) → length cs ≡ length ds → ((t : ℕ) → countsOf cs t .moved ≡ countsOf ds t .moved) → allMoved cs ≡ allMoved ds
+unfolding allMoved countsOf
+together [] [] e h = refl
+together [] (d ∷ ds) e h = absurd (let z : ⊥ = omega (arith, e) in z)
+together (c ∷ cs) [] e h = absurd (let z : ⊥ = omega (arith, e) in z)
+together (c ∷ cs) (d ∷ ds) e h =
+    let f = together cs ds (omega (arith, e)) (λ t. h (suc t)) in
+    omega (arith, h 0, f)
+
+pub same-total : {p : Program} {list : List ℕ} (r : Serialized p list) → allMoved (run p (r .serial) .counts) ≡ allMoved (run p list .counts)
+unfolding run
+same-total {p} {list} r = together _ _ (length-counts p _ (r .serial) ∙ sym (length-counts p _ list)) (r .same-moved)

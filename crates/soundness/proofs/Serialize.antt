@@ -29,7 +29,7 @@ use Rattle.soundness.specs.Naming.{Move, Named, namedStart, moves, moves
 use Rattle.soundness.specs.Internal.Prefix.{Prefix, outer, statusOf, Below, below-outer, proper-outer}
 use Rattle.soundness.specs.Internal.Traced.{threadsOf}
 use Rattle.soundness.proofs.Instance.{inside-row, machine-movers}
-use Rattle.soundness.proofs.Naming.{run-end, moves-counted}
+use Rattle.soundness.proofs.Naming.{run-end, moved-by-moves}
 use Rattle.soundness.proofs.Prefix.{outer-outside}
 use Rattle.soundness.proofs.Traced.{traced, listed}
 
@@ -95,13 +95,13 @@ module _ (p : Program) (A : ThreadsAnnotated p) where
       let R = reduction (machineMoves p A) (machine-movers p A) (T .trace) quiescent-start end in
       let L = listed p A (R .uninterrupted) invariant-start in
       let serial = threadsOf (R .moves) in
+      let each : (t : ℕ) → movesOf t (moves p serial) ≡ movesOf t (moves p list) = λ t. ap (movesOf t) (L .same-moves) ∙ R .same-moves t in
       record {
         serial = serial;
         threads = L .threads;
         uninterrupted = L .uninterrupted;
         same-state = run-end p serial ∙ ap (λ (g : Named). g .machine) (L .same-end) ∙ sym (run-end p list);
-        same-moved =
-            moves-counted p serial ∙ ap (λ (l : List Move). length l) (L .same-moves) ∙ same-length (machineMoves p A) R ∙ sym (moves-counted p list);
-        same-moves = λ t. ap (movesOf t) (L .same-moves) ∙ R .same-moves t;
+        same-moved = moved-by-moves p serial list each;
+        same-moves = each;
         same-order = λ a b h. subst (Precedes a b) (sym (L .same-moves)) (same-precedence (machineMoves p A) R a b h);
       }
