@@ -10,6 +10,7 @@ mod stated;
 fn main() {
     stated::empty_file();
     stated::empty_list();
+    stated::own_counts();
     stated::sixteen_entries();
     stated::seventeenth_entry();
     stated::read_before_take();

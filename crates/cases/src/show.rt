@@ -1,9 +1,11 @@
 // The public calls, and what they answer: the case's name, then a report, counts and state, a line, or a refusal.
 use hogunlas::Judged;
 use hogunlas::Printed;
-use hogunlas::Ran;
+use hogunlas::RunEnd;
+use machine::counts::Counts;
 use program::limits::LINE_SIZE;
 use program::limits::REPORT_LIMIT;
+use program::limits::THREAD_LIMIT;
 use program::refusal::Refusal;
 use program::refusal::detail;
 use program::refusal::number;
@@ -21,18 +23,18 @@ pub fn judge(name: &[u8], file: &[u8]) {
     }
 }
 
-// The whole buffer is shown. It held 255s, and is a byte longer than the example file's state.
-pub fn run(name: &[u8], file: &[u8], list: &[u8]) {
+// The counts of each thread, then the whole buffer that was lent.
+pub fn run(name: &[u8], file: &[u8], list: &[u8], state: &mut [u8]) {
     text(name);
-    let mut state = [255u8; 40];
-    match hogunlas::run(file, list, &mut state) {
-        Ran::Refused(refusal) => refused(refusal),
-        Ran::Counted(moved, waiting, idle) => {
-            decimal(b"moved ", moved);
-            decimal(b", waiting ", waiting);
-            decimal(b", idle ", idle);
+    let ran = hogunlas::run(file, list, state);
+    let end = ran.end;
+    let threads = ran.threads;
+    match end {
+        RunEnd::Refused(refusal) => refused(refusal),
+        RunEnd::Counted => {
+            counts(threads);
             text(b", buffer");
-            bytes(&state);
+            bytes(state);
             text(b"\n");
         }
     }
@@ -76,6 +78,19 @@ fn refused(refusal: Refusal) {
     text(b"\n");
 }
 
+// Moved, waiting and idle of each thread.
+fn counts(threads: [Counts; THREAD_LIMIT]) {
+    text(b"counts");
+    let mut t: usize = 0;
+    while t < THREAD_LIMIT {
+        let of = threads[t];
+        count(b" ", of.moved);
+        count(b"/", of.waiting);
+        count(b"/", of.idle);
+        t += 1;
+    }
+}
+
 // Each byte's value, a blank before it.
 fn bytes(of: &[u8]) {
     let mut i = 0;
@@ -103,8 +118,12 @@ fn wide(byte: u8) -> usize {
 }
 
 fn decimal(words: &[u8], n: usize) {
+    count(words, n as u64);
+}
+
+fn count(words: &[u8], n: u64) {
     text(words);
-    io::print_decimal(1, n as u64);
+    io::print_decimal(1, n);
 }
 
 fn text(words: &[u8]) {

@@ -13,15 +13,30 @@ use crate::show;
 // "Empty file, 1 at 0."
 pub fn empty_file() {
     show::judge(b"empty file, judge: ", b"");
-    show::run(b"empty file, run: ", b"", b"");
+    let mut state = [255u8; 1];
+    show::run(b"empty file, run: ", b"", b"", &mut state);
     show::line(b"empty file, line: ", b"", 0);
 }
 
-// "Empty list: the start state", here of the standard's example file.
+// "Empty list: the start state", here of the standard's example file. The buffer is a byte longer than the state.
 pub fn empty_list() {
     let file =
         b"\x01\x01\x01\x00\x06\x00\x00\x00\x00\x00\x05\x00\x0C\x20\x00\x00\x00\x10\x02\x00\x00\x21\x00\x00\x00";
-    show::run(b"empty list: ", file, b"");
+    let mut state = [255u8; 40];
+    show::run(b"empty list: ", file, b"", &mut state);
+}
+
+// "Each entry counts for its own thread": two threads TAKE k0, GIVE k0, and one whose code is empty.
+pub fn own_counts() {
+    let file =
+        b"\x01\x01\x03\x00\x00\x00\x08\x20\x00\x00\x00\x21\x00\x00\x00\x00\x08\x20\x00\x00\x00\x21\x00\x00\x00\x00\x00";
+    let mut state = [255u8; 104];
+    show::run(
+        b"own counts: ",
+        file,
+        b"\x00\x01\x02\x01\x02\x00\x01",
+        &mut state,
+    );
 }
 
 // Seventeen WHILEs, each the body of the one before, and their AGAINs.

@@ -18,7 +18,7 @@ use borrow.Author.Tests.{le-leb, lt-leb, lt-ltb, ltb-true}
 use Rattle.judge.specs.Acceptance.{accept}
 use Rattle.machine.specs.Run.{Entries, run}
 use Rattle.machine.specs.State.{stateBytes}
-use Rattle.machine.specs.declared.run.Counts.{Counts}
+use Rattle.machine.specs.declared.counts.Counts.{Counts}
 use Rattle.program.proofs.Search.{firstBad-nowhere}
 use Rattle.program.specs.Answer.{refused}
 use Rattle.program.specs.Choice.{firstBad}
@@ -31,7 +31,7 @@ use Rattle.program.specs.declared.refusal.Refusal.{Refusal}
 use Rattle.program.specs.declared.refusal.Refusal.the-variants.{LongList, ThreadNumber, ShortBuffer}
 use Rattle.hogunlas.specs.Calls.{ranOf, runAnswer, runBuffer, laidOver}
 use Rattle.hogunlas.specs.Internal.Opened.{Opened}
-use Rattle.hogunlas.specs.declared.Ran.the-variants as ran
+use Rattle.hogunlas.specs.declared.RunEnd.the-variants as ran
 use Rattle.hogunlas.proofs.Opening.{state-size}
 
 -- the bytes that the end state takes
@@ -61,14 +61,14 @@ every-entry l list e i h =
 module _ (s list buffer : List ℕ) where
   -- the file is refused
   pub run-refused : (r : Refusal) → accept s ≡ refused r
-      → (ran.Refused r ≡ ranOf (runAnswer s list (length buffer))) × (buffer ≡ runBuffer s list buffer)
+      → (ranOf (refused r) ≡ ranOf (runAnswer s list (length buffer))) × (buffer ≡ runBuffer s list buffer)
   unfolding runAnswer runBuffer
   run-refused r e = rw e (refl, refl)
 
   module _ (l : Layout) (report : List ℕ) (o : Opened s l report) where
     -- the list is too long
     pub run-long : listLimit < length list
-        → (ran.Refused (LongList listLimit) ≡ ranOf (runAnswer s list (length buffer))) × (buffer ≡ runBuffer s list buffer)
+        → (ranOf (refused (LongList listLimit)) ≡ ranOf (runAnswer s list (length buffer))) × (buffer ≡ runBuffer s list buffer)
     unfolding runAnswer runBuffer
     run-long h = rw (o .accepts, lt-leb (length list) listLimit h) (refl, refl)
 
@@ -81,24 +81,24 @@ module _ (s list buffer : List ℕ) where
     module _ (h : length list ≤ listLimit) where
       -- an entry names no thread
       pub run-thread : (i : ℕ) → firstBad (λ k. ltb (getD list k 0) (l .threads)) 1 (length list) 0 ≡ At i
-          → (ran.Refused (ThreadNumber i) ≡ ranOf (runAnswer s list (length buffer))) × (buffer ≡ runBuffer s list buffer)
+          → (ranOf (refused (ThreadNumber i)) ≡ ranOf (runAnswer s list (length buffer))) × (buffer ≡ runBuffer s list buffer)
       unfolding runAnswer runBuffer
       run-thread i e = rw (o .accepts, le-leb (length list) listLimit h, threads-tested (At i) e) (refl, refl)
 
       module _ (e : firstBad (λ k. ltb (getD list k 0) (l .threads)) 1 (length list) 0 ≡ Nowhere) where
         -- the buffer is too short for the state
         pub run-short : length buffer < endStateSize l
-            → (ran.Refused (ShortBuffer (endStateSize l)) ≡ ranOf (runAnswer s list (length buffer))) × (buffer ≡ runBuffer s list buffer)
+            → (ranOf (refused (ShortBuffer (endStateSize l))) ≡ ranOf (runAnswer s list (length buffer))) × (buffer ≡ runBuffer s list buffer)
         unfolding runAnswer runBuffer
         run-short k =
             rw (o .accepts, le-leb (length list) listLimit h, threads-tested Nowhere e, state-size s l, lt-leb (endStateSize l) (length buffer) k)
             (refl, refl)
 
         -- the list was run, and its end state laid over the buffer
-        pub run-done : endStateSize l ≤ length buffer → (c : Counts) → c ≡ run (programOf s l) list .counts
+        pub run-done : endStateSize l ≤ length buffer → (c : List Counts) → c ≡ run (programOf s l) list .counts
             → (exit : List ℕ)
             → exit ≡ stateBytes (run (programOf s l) list .state) ++ drop (length (stateBytes (run (programOf s l) list .state))) buffer
-            → (ran.Counted (c .moved) (c .waiting) (c .idle) ≡ ranOf (runAnswer s list (length buffer))) × (exit ≡ runBuffer s list buffer)
+            → (record { end = ran.Counted; threads = c } ≡ ranOf (runAnswer s list (length buffer))) × (exit ≡ runBuffer s list buffer)
         unfolding runAnswer runBuffer laidOver
         run-done k c counted exit x =
             rw (o .accepts, le-leb (length list) listLimit h, threads-tested Nowhere e, state-size s l, le-leb (endStateSize l) (length buffer) k, ← counted)

@@ -2,21 +2,21 @@
 -- and bench"; "Who can bring a number about" for the order of the refusals).
 use Prim.Native.Nat.{ℕ}
 use mathlib.Core.List.{List, [], _++_, flatten}
-use lib.ListN.{length, getD, take, drop}
+use lib.ListN.{length, getD, take, drop, replicate}
 use lib.Dec.{ltb, leb}
 use Rattle.judge.specs.Acceptance.{Accepted, accept}
-use Rattle.machine.specs.Run.{Run, run}
+use Rattle.machine.specs.Run.{Run, uncounted, run}
 use Rattle.machine.specs.State.{stateBytes}
 use Rattle.printout.specs.Line.{lines, refusalLine}
 use Rattle.program.specs.Answer.{Answer, fine, refused, _>>=_, _>>_, require, requireNone}
-use Rattle.program.specs.Limits.{sizeOfState, listLimit, lineSize, benchLimit}
+use Rattle.program.specs.Limits.{sizeOfState, threadLimit, listLimit, lineSize, benchLimit}
 use Rattle.program.specs.Choice.{firstBad}
 use Rattle.program.specs.Layout.{Program}
 use Rattle.program.specs.declared.refusal.Refusal.the-variants.{LongList, ThreadNumber, ShortBuffer, LineNumber}
 use Rattle.hogunlas.specs.declared.Judged.{Judged}
 use Rattle.hogunlas.specs.declared.Judged.the-variants as judged
 use Rattle.hogunlas.specs.declared.Ran.{Ran}
-use Rattle.hogunlas.specs.declared.Ran.the-variants as ran
+use Rattle.hogunlas.specs.declared.RunEnd.the-variants as ran
 use Rattle.hogunlas.specs.declared.Printed.{Printed}
 use Rattle.hogunlas.specs.declared.Printed.the-variants as printed
 
@@ -64,10 +64,10 @@ runAnswer s list room = do
   require (leb (stateSize (a .program)) room) (ShortBuffer (stateSize (a .program)))
   fine (run (a .program) list)
 
--- "Run returns the counts moved, waiting and idle"
+-- "Run returns the counts moved, waiting and idle of each of eight threads"; "with a refusal the answer's own numbers are 0"
 abbrev pub ranOf : Answer Run → Ran
-ranOf (fine r) = ran.Counted (r .counts .moved) (r .counts .waiting) (r .counts .idle)
-ranOf (refused r) = ran.Refused r
+ranOf (fine r) = record { end = ran.Counted; threads = r .counts }
+ranOf (refused r) = record { end = ran.Refused r; threads = replicate threadLimit uncounted }
 
 unfoldable pub runBuffer : List ℕ → List ℕ → List ℕ → List ℕ
 runBuffer s list buffer = bufferAfter (λ (r : Run). stateBytes (r .state)) (runAnswer s list (length buffer)) buffer

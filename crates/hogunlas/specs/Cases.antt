@@ -1,11 +1,12 @@
 -- The starred cases (the standard, "Cases"), one row each: what the definitions compute, and what the standard says.
 use Prim.Native.Nat.{ℕ, _+_}
 use mathlib.Core.List.{List, [], _∷_, _++_, map, flatMap}
-use lib.ListN.{length}
+use lib.ListN.{length, replicate}
 use Rattle.atomicity.specs.Atomicity.{reportByte, composition, join, closure}
 use Rattle.atomicity.specs.declared.Atomicity.{Atomicity}
 use Rattle.atomicity.specs.declared.Atomicity.the-variants.{Left, Right, Atomic, Top}
 use Rattle.machine.specs.Run.{Run}
+use Rattle.machine.specs.declared.counts.Counts.{Counts}
 use Rattle.machine.specs.declared.thread.Thread.{Thread}
 use Rattle.program.specs.Answer.{Answer, fine, refused}
 use Rattle.program.specs.Limits.{lockLimit, threadLimit, variableLimit, reportLimit, sizeOfState}
@@ -42,11 +43,12 @@ judgeSays s = answerSays (λ (report : List ℕ). report) (judgeAnswer s reportL
 unfoldable pub runSays : (Run → List ℕ) → (file list : List ℕ) → Says
 runSays counting s list = answerSays counting (runAnswer s list (sizeOfState variableLimit lockLimit threadLimit))
 
--- its counts, then the places and the locks at the end
+-- the counts of each of eight threads, then the places and the locks at the end
 abbrev pub countsPlacesLocks : Run → List ℕ
 countsPlacesLocks r =
-    r .counts .moved ∷ r .counts .waiting ∷ r .counts .idle
-    ∷ map (λ (th : Thread). th .place) (r .state .threads) ++ r .state .locks
+    flatMap (λ (c : Counts). c .moved ∷ c .waiting ∷ c .idle ∷ []) (r .counts)
+    ++ map (λ (th : Thread). th .place) (r .state .threads)
+    ++ r .state .locks
 
 -- the registers of all threads at the end
 abbrev pub registers : Run → List ℕ
@@ -128,6 +130,7 @@ starred =
     -- Block READ open, TAKE, GIVE: 13, at the END, if another thread writes the variable; A if none does
     ∷ case (judgeSays (fileAndWriter openVariable (ATOMIC 4 ++ READ ++ TAKE ++ GIVE ++ END))) (refusal 13 (13 + 16))
     ∷ case (judgeSays (file openVariable (ATOMIC 4 ++ READ ++ TAKE ++ GIVE ++ END))) (numbers (4 ∷ 1 ∷ 3 ∷ 2 ∷ 0 ∷ 4 ∷ []))
-    -- Two threads TAKE k0, GIVE k0, list 0 1 0 1: moved 3, waiting 1, idle 0; places 2 and 1; k0 holds 2
-    ∷ case (runSays countsPlacesLocks twoThreads (0 ∷ 1 ∷ 0 ∷ 1 ∷ [])) (numbers (3 ∷ 1 ∷ 0 ∷ 2 ∷ 1 ∷ 2 ∷ []))
+    -- Two threads TAKE k0, GIVE k0, list 0 1 0 1: moved 3, waiting 1, idle 0; places 2 and 1; k0 holds 2. Thread 0 moved twice; thread 1
+    -- moved once and waited once; the six others are not there
+    ∷ case (runSays countsPlacesLocks twoThreads (0 ∷ 1 ∷ 0 ∷ 1 ∷ [])) (numbers (2 ∷ 0 ∷ 0 ∷ 1 ∷ 1 ∷ 0 ∷ replicate 18 0 ++ 2 ∷ 1 ∷ 2 ∷ []))
     ∷ []

@@ -1,10 +1,12 @@
 // The calls for C and Rust (include/hogunlas.h): answers as structs of numbers, refusal 0 for none. A slice is a pointer and a length.
 use crate::Judged;
 use crate::Printed;
-use crate::Ran;
+use crate::RunEnd;
 use crate::judge;
 use crate::line;
 use crate::run;
+use machine::counts::Counts;
+use program::limits::THREAD_LIMIT;
 use program::refusal::detail;
 use program::refusal::number;
 ghost use mathlib.Core.Path.{_≡_};
@@ -21,13 +23,12 @@ pub struct JudgedNumbers {
     pub length: u64,
 }
 
+// Until standard 1.1 run had the name hogunlas_run, and its struct three counts: a program that was compiled for these does not link.
 #[repr(C)]
 pub struct RanNumbers {
     pub refusal: u32,
     pub detail: u64,
-    pub moved: u64,
-    pub waiting: u64,
-    pub idle: u64,
+    pub threads: [Counts; THREAD_LIMIT],
 }
 
 #[no_mangle]
@@ -52,26 +53,24 @@ pub extern "C" fn hogunlas_judge(file: &[u8], report: &mut [u8]) -> JudgedNumber
 }
 
 #[no_mangle]
-pub extern "C" fn hogunlas_run(file: &[u8], list: &[u8], state: &mut [u8]) -> RanNumbers
+pub extern "C" fn hogunlas_run_by_thread(file: &[u8], list: &[u8], state: &mut [u8]) -> RanNumbers
     ensures result { λ r. ⌜ r ≡ ranNumbers (ranOf (runAnswer (now (file .entry)) (now (list .entry)) (length (now (state .entry))))) ⌝ }
     ensures buffer { λ _. ⌜ now (state .exit) ≡ runBuffer (now (file .entry)) (now (list .entry)) (now (state .entry)) ⌝ }
     ensures demand { λ _. ⌜ Demand3 (now (file .entry)) ⌝ }
 {
     let ran = run(file, list, state);
-    match ran {
-        Ran::Counted(moved, waiting, idle) => RanNumbers {
+    let end = ran.end;
+    let threads = ran.threads;
+    match end {
+        RunEnd::Counted => RanNumbers {
             refusal: 0,
             detail: 0,
-            moved: moved as u64,
-            waiting: waiting as u64,
-            idle: idle as u64,
+            threads: threads,
         },
-        Ran::Refused(refusal) => RanNumbers {
+        RunEnd::Refused(refusal) => RanNumbers {
             refusal: number(refusal) as u32,
             detail: detail(refusal) as u64,
-            moved: 0,
-            waiting: 0,
-            idle: 0,
+            threads: threads,
         },
     }
 }

@@ -6,6 +6,7 @@ pub mod list;
 use crate::list::first_bad_thread;
 use judge::judging::Judging;
 use judge::judging::judge_file;
+use machine::counts::Counts;
 use machine::run::run_list;
 use printout::print::line_count;
 use printout::print::write_line;
@@ -16,11 +17,13 @@ use program::limits::CODE_LIMIT;
 use program::limits::LINE_SIZE;
 use program::limits::LIST_LIMIT;
 use program::limits::REPORT_LIMIT;
+use program::limits::THREAD_LIMIT;
 use program::limits::THREAD_SIZE;
 use program::limits::WORD_SIZE;
 use program::refusal::Refusal;
 ghost use mathlib.Core.Path.{_≡_};
 ghost use lib.ListN.{length};
+ghost use Rattle.program.specs.Answer.{refused};
 ghost use Rattle.program.specs.Internal.Rows.{rowTable};
 ghost use Rattle.program.specs.Internal.Sections.{SectionTable};
 ghost use Rattle.judge.specs.Demand.{Demand2};
@@ -34,10 +37,16 @@ pub enum Judged {
     Refused(Refusal),
 }
 
-// What run answers: the counts moved, waiting and idle, or the refusal.
-pub enum Ran {
-    Counted(usize, usize, usize),
+// How run ended: with its counts, or refused.
+pub enum RunEnd {
+    Counted,
     Refused(Refusal),
+}
+
+// What run answers: how it ended, and the counts moved, waiting and idle of each thread, all 0 after a refusal.
+pub struct Ran {
+    pub end: RunEnd,
+    pub threads: [Counts; THREAD_LIMIT],
 }
 
 // What line answers: the line's length, or the refusal.
@@ -70,6 +79,22 @@ pub fn judge(file: &[u8], out: &mut [u8]) -> Judged
     }
 }
 
+// What run answers with a refusal.
+fn run_refused(refusal: Refusal) -> Ran
+    ensures { λ r. ⌜ r ≡ ranOf (refused refusal) ⌝ }
+{
+    let none = Counts {
+        moved: 0,
+        waiting: 0,
+        idle: 0,
+    };
+    let threads = [none; THREAD_LIMIT];
+    Ran {
+        end: RunEnd::Refused(refusal),
+        threads: threads,
+    }
+}
+
 // An accepted file's program, run on a list: the caller's refusals in their order, then the run.
 fn run_accepted(
     rows: &[u8],
@@ -85,18 +110,21 @@ fn run_accepted(
     ensures buffer { λ _. ⌜ now (out .exit) ≡ runBuffer (now (file .entry)) (now (list .entry)) (now (out .entry)) ⌝ }
 {
     if LIST_LIMIT < list.len() {
-        return Ran::Refused(Refusal::LongList(LIST_LIMIT));
+        return run_refused(Refusal::LongList(LIST_LIMIT));
     }
     let found = first_bad_thread(list, l.threads);
     match found {
-        Found::At(i) => Ran::Refused(Refusal::ThreadNumber(i)),
+        Found::At(i) => run_refused(Refusal::ThreadNumber(i)),
         Found::Nowhere => {
             let size = WORD_SIZE * l.variables + l.locks + THREAD_SIZE * l.threads;
             if out.len() < size {
-                return Ran::Refused(Refusal::ShortBuffer(size));
+                return run_refused(Refusal::ShortBuffer(size));
             }
-            let ran = run_list(rows, file, l, starts, counts, list, out);
-            Ran::Counted(ran.moved, ran.waiting, ran.idle)
+            let threads = run_list(rows, file, l, starts, counts, list, out);
+            Ran {
+                end: RunEnd::Counted,
+                threads: threads,
+            }
         }
     }
 }
@@ -114,7 +142,7 @@ pub fn run(file: &[u8], list: &[u8], out: &mut [u8]) -> Ran
     let mut report = [0u8; REPORT_LIMIT];
     let judging = judge_file(&rows, file, &mut starts, &mut counts, &mut report);
     match judging {
-        Judging::Refused(refusal) => Ran::Refused(refusal),
+        Judging::Refused(refusal) => run_refused(refusal),
         Judging::Done(l, _) => run_accepted(&rows, file, l, &starts, &counts, list, out),
     }
 }

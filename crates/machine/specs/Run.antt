@@ -57,6 +57,11 @@ unfoldable pub totals : List Counts → ℕ
 totals [] = 0
 totals (c ∷ cs) = total c + totals cs
 
+-- the moves of all threads together
+unfoldable pub allMoved : List Counts → ℕ
+allMoved [] = 0
+allMoved (c ∷ cs) = c .moved + allMoved cs
+
 -- how often a list names thread t
 unfoldable pub timesNamed : ℕ → List ℕ → ℕ
 timesNamed t [] = 0

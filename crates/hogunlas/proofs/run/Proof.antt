@@ -1,4 +1,5 @@
 -- `run` meets its contract: the file's refusals, or what `run_accepted` answers; demand 3 is a theorem of every file. Assumes nothing.
+use mathlib.Core.Path.{_∙_}
 use Rattle.soundness.proofs.Demand.{demand3}
 use Rattle.hogunlas.proofs.JudgeCall.{as-accepted, as-refused}
 use Rattle.hogunlas.proofs.Opening.{opened-by}
@@ -21,9 +22,12 @@ slice-aggregate-judge-file-2 c = search needs
 judge-file-requires : tie.Need-judge-file-requires
 judge-file-requires c κs = search needs
 
--- `Judging::Refused(refusal) => Ran::Refused(refusal)`
+-- `Judging::Refused(refusal) => run_refused(refusal)`
 enum-known-judging : tie.Need-enum-known-judging
 enum-known-judging c = search needs
+
+run-refused-requires : tie.Need-run-refused-requires
+run-refused-requires c κs = search needs
 
 -- `Judging::Done(l, _) => run_accepted(&rows, file, l, &starts, &counts, list, out)`
 enum-known-judging-2 : tie.Need-enum-known-judging-2
@@ -39,9 +43,9 @@ run-accepted-requires c κs =
 
 returns : tie.Need-returns
 returns c =
-    let answered = run-refused (c .before .before .before .before .before .before .before .before .before .before .before .before .before .args .file .now) (c .before .before .before .before .before .before .before .before .before .before .before .before .before .args .list .now) (c .before .before .before .before .before .before .before .before .before .before .before .before .before .args .out .now) _
-    (as-refused _ _ _ _ _ _ (c .before .judging .given .1) (c .before .before .before .before .judge-file .ensures)) in
-    (answered .0, (answered .1, demand3 (c .before .before .before .before .before .before .before .before .before .before .before .before .before .args .file .now)))
+    let answered = run-refused (c .before .before .before .before .before .before .before .before .before .before .before .before .before .before .args .file .now) (c .before .before .before .before .before .before .before .before .before .before .before .before .before .before .args .list .now) (c .before .before .before .before .before .before .before .before .before .before .before .before .before .before .args .out .now) _
+    (as-refused _ _ _ _ _ _ (c .before .before .judging .given .1) (c .before .before .before .before .before .judge-file .ensures)) in
+    (c .run-refused .ensures ∙ answered .0, (answered .1, demand3 (c .before .before .before .before .before .before .before .before .before .before .before .before .before .before .args .file .now)))
 
 same-length : tie.Need-same-length
 same-length c = search needs
@@ -60,6 +64,7 @@ run-spec =
     slice-aggregate-judge-file-2
     judge-file-requires
     enum-known-judging
+    run-refused-requires
     enum-known-judging-2
     slice-aggregate-run-accepted
     run-accepted-requires
