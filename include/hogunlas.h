@@ -31,10 +31,11 @@ extern "C" {
 
 /* The version of the standard. (HOGUNLAS_VERSION is a refusal: the version of a file.) */
 #define HOGUNLAS_STANDARD_MAJOR 1
-#define HOGUNLAS_STANDARD_MINOR 1
+#define HOGUNLAS_STANDARD_MINOR 2
 
 /* The limits. */
 #define HOGUNLAS_MAX_FILE 33173  /* bytes of the largest file that is not refused */
+#define HOGUNLAS_MAX_THREADS 8   /* threads of a file, and whose counts run answers */
 #define HOGUNLAS_MAX_REPORT 8200 /* bytes of the longest report */
 #define HOGUNLAS_MAX_LIST 65536  /* entries of the longest list */
 #define HOGUNLAS_MAX_STATE 544   /* bytes of the longest end state */
@@ -92,13 +93,22 @@ hogunlas_judged hogunlas_judge(const uint8_t *file, size_t file_length,
 
 /* ---- run --------------------------------------------------------------------------------- */
 
-/* What run answers: how many entries moved, waited and were idle; their sum is the list's length. */
+/* A thread's counts: how many of the list's entries for it moved, waited and were idle. */
 typedef struct {
-    uint32_t refusal;
-    uint64_t detail;
     uint64_t moved;
     uint64_t waiting;
     uint64_t idle;
+} hogunlas_counts;
+
+/*
+ * What run answers: the counts of each thread, by thread number. Those of a thread that the file
+ * does not have are 0. A thread's three counts sum to how often the list names it, and all together
+ * sum to the list's length.
+ */
+typedef struct {
+    uint32_t refusal;
+    uint64_t detail;
+    hogunlas_counts threads[HOGUNLAS_MAX_THREADS];
 } hogunlas_ran;
 
 /*
@@ -108,10 +118,14 @@ typedef struct {
  * The end state has, numbers big-endian: 4 bytes for each variable; 1 byte for each lock (0 free,
  * or the holder's thread number plus 1); and for each thread 2 bytes for its place and 4 for each
  * of its eight registers.
+ *
+ * The name. A program compiled against the header of standard 1.0 or 1.1 calls hogunlas_run,
+ * which is no longer there: it does not link. Its struct is shorter, with the three counts of all
+ * threads together; under the old name it would link, and the call would write past that struct.
  */
-hogunlas_ran hogunlas_run(const uint8_t *file, size_t file_length,
-                          const uint8_t *list, size_t list_length,
-                          uint8_t *state, size_t state_length);
+hogunlas_ran hogunlas_run_by_thread(const uint8_t *file, size_t file_length,
+                                    const uint8_t *list, size_t list_length,
+                                    uint8_t *state, size_t state_length);
 
 /* ---- line -------------------------------------------------------------------------------- */
 

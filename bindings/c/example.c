@@ -1,6 +1,6 @@
 /*
- * The calls from C, on the standard's example file. Prints what they answer and ends with 0, or
- * says what is wrong and ends with 1.
+ * The calls from C, on the standard's example file and, for run, on one with two threads. Prints
+ * what they answer and ends with 0, or says what is wrong and ends with 1.
  *
  *     cc -I../include c/example.c ../target/staticlib/libhogunlas.a
  */
@@ -19,6 +19,12 @@ static const uint8_t example[] = {
 static const uint8_t unguarded[] = {
     0x01, 0x01, 0x01, 0x00, 0x06, 0x00, 0x00, 0x00, 0x00, 0x00, 0x05, 0x00, 0x0C,
     0x10, 0x02, 0x00, 0x00, 0x20, 0x00, 0x00, 0x00, 0x21, 0x00, 0x00, 0x00,
+};
+
+/* One lock, two threads, no variable; each thread: TAKE k0, GIVE k0. */
+static const uint8_t two_threads[] = {
+    0x01, 0x01, 0x02, 0x00, 0x00, 0x00, 0x08, 0x20, 0x00, 0x00, 0x00, 0x21, 0x00,
+    0x00, 0x00, 0x00, 0x08, 0x20, 0x00, 0x00, 0x00, 0x21, 0x00, 0x00, 0x00,
 };
 
 static int wrong(const char *what)
@@ -68,34 +74,103 @@ static int try_judge(void)
     return 0;
 }
 
-static int try_run(void)
+/* Whether a thread has these counts. */
+static int counted(hogunlas_counts counts, uint64_t moved, uint64_t waiting, uint64_t idle)
+{
+    return counts.moved == moved && counts.waiting == waiting && counts.idle == idle;
+}
+
+/* Whether the counts of all threads from `first` on are 0. */
+static int none_from(const hogunlas_ran *ran, size_t first)
+{
+    for (size_t t = first; t < HOGUNLAS_MAX_THREADS; t++) {
+        if (!counted(ran->threads[t], 0, 0, 0))
+            return 0;
+    }
+    return 1;
+}
+
+/* The counts of all threads together. */
+static uint64_t sum(const hogunlas_ran *ran)
+{
+    uint64_t entries = 0;
+    for (size_t t = 0; t < HOGUNLAS_MAX_THREADS; t++)
+        entries += ran->threads[t].moved + ran->threads[t].waiting + ran->threads[t].idle;
+    return entries;
+}
+
+static int try_run_refused(void)
 {
     static const uint8_t list[] = {0, 0, 0, 0};
     static const uint8_t stranger[] = {0, 1};
+    uint8_t state[HOGUNLAS_MAX_STATE];
+    memset(state, 0xA5, sizeof state);
+
+    hogunlas_ran ran = hogunlas_run_by_thread(example, sizeof example, stranger, sizeof stranger,
+                                              state, 0);
+    if (ran.refusal != HOGUNLAS_THREAD_NUMBER || ran.detail != 1 || !none_from(&ran, 0))
+        return wrong("a thread number too large is 15 at its index");
+    ran = hogunlas_run_by_thread(example, sizeof example, list, sizeof list, state, 38);
+    if (ran.refusal != HOGUNLAS_BUFFER_TOO_SHORT || ran.detail != 39 || !none_from(&ran, 0))
+        return wrong("a buffer of 38 bytes is 16 at 39");
+    if (!kept(state, 0, sizeof state))
+        return wrong("a refusal keeps the buffer");
+    return 0;
+}
+
+static int try_run(void)
+{
+    static const uint8_t list[] = {0, 0, 0, 0};
     /* v0, k0, place 3, r0, r1, r2; the other registers are 0 */
     static const uint8_t wanted[39] = {0, 0, 0, 5, 0, 0, 3, 0, 0, 0, 0, 0, 0, 0, 0, 0, 0, 0, 5};
     uint8_t state[HOGUNLAS_MAX_STATE];
     memset(state, 0xA5, sizeof state);
 
-    hogunlas_ran ran = hogunlas_run(example, sizeof example, stranger, sizeof stranger, state, 0);
-    if (ran.refusal != HOGUNLAS_THREAD_NUMBER || ran.detail != 1)
-        return wrong("a thread number too large is 15 at its index");
-    ran = hogunlas_run(example, sizeof example, list, sizeof list, state, 38);
-    if (ran.refusal != HOGUNLAS_BUFFER_TOO_SHORT || ran.detail != 39)
-        return wrong("a buffer of 38 bytes is 16 at 39");
-    if (!kept(state, 0, sizeof state))
-        return wrong("a refusal keeps the buffer");
-
-    ran = hogunlas_run(example, sizeof example, list, sizeof list, state, sizeof state);
+    hogunlas_ran ran = hogunlas_run_by_thread(example, sizeof example, list, sizeof list,
+                                              state, sizeof state);
     if (ran.refusal != HOGUNLAS_ANSWERED || ran.detail != 0)
         return wrong("the example runs");
-    if (ran.moved != 3 || ran.waiting != 0 || ran.idle != 1)
-        return wrong("moved 3, waiting 0, idle 1");
+    if (!counted(ran.threads[0], 3, 0, 1) || !none_from(&ran, 1))
+        return wrong("moved 3, waiting 0, idle 1, and no other thread");
     if (memcmp(state, wanted, sizeof wanted) != 0)
         return wrong("the end state");
     if (!kept(state, sizeof wanted, sizeof state))
         return wrong("an answer keeps the later bytes");
-    printf("run: moved %d, waiting %d, idle %d\n", (int)ran.moved, (int)ran.waiting, (int)ran.idle);
+    return 0;
+}
+
+/*
+ * Prints a table of the file's threads: byte 2 of a file is their number. A count is at most a
+ * list's length, so an int holds it.
+ */
+static void print_threads(const uint8_t *file, const hogunlas_ran *ran)
+{
+    printf("run:\nthread  moved  waiting  idle\n");
+    for (int t = 0; t < file[2]; t++) {
+        const hogunlas_counts *counts = &ran->threads[t];
+        printf("%6d %6d %8d %5d\n", t, (int)counts->moved, (int)counts->waiting,
+               (int)counts->idle);
+    }
+}
+
+static int try_run_by_thread(void)
+{
+    static const uint8_t list[] = {0, 1, 0, 1};
+    uint8_t state[HOGUNLAS_MAX_STATE];
+
+    hogunlas_ran ran = hogunlas_run_by_thread(two_threads, sizeof two_threads, list, sizeof list,
+                                              state, sizeof state);
+    if (ran.refusal != HOGUNLAS_ANSWERED || ran.detail != 0)
+        return wrong("two threads run");
+    if (!counted(ran.threads[0], 2, 0, 0))
+        return wrong("thread 0 takes the lock and gives it");
+    if (!counted(ran.threads[1], 1, 1, 0))
+        return wrong("thread 1 waits for the lock, then takes it");
+    if (!none_from(&ran, two_threads[2]))
+        return wrong("a thread that the file does not have counts 0");
+    if (sum(&ran) != sizeof list)
+        return wrong("all counts sum to the list's length");
+    print_threads(two_threads, &ran);
     return 0;
 }
 
@@ -129,7 +204,11 @@ int main(void)
 {
     if (try_judge() != 0)
         return 1;
+    if (try_run_refused() != 0)
+        return 1;
     if (try_run() != 0)
+        return 1;
+    if (try_run_by_thread() != 0)
         return 1;
     if (try_line() != 0)
         return 1;

@@ -8,6 +8,8 @@
 //! and return.
 #![allow(unsafe_code)]
 
+use crate::MAX_THREADS;
+
 // The archive is made for x86-64, where C's size_t, Rust's usize and u64 are the same.
 const _: () = assert!(usize::BITS == u64::BITS);
 
@@ -19,14 +21,20 @@ pub(crate) struct Judged {
     pub length: u64,
 }
 
+/// `hogunlas_counts`.
+#[repr(C)]
+pub(crate) struct Counts {
+    pub moved: u64,
+    pub waiting: u64,
+    pub idle: u64,
+}
+
 /// `hogunlas_ran`.
 #[repr(C)]
 pub(crate) struct Ran {
     pub refusal: u32,
     pub detail: u64,
-    pub moved: u64,
-    pub waiting: u64,
-    pub idle: u64,
+    pub threads: [Counts; MAX_THREADS],
 }
 
 /// `hogunlas_printed`.
@@ -45,7 +53,7 @@ extern "C" {
         report_length: usize,
     ) -> Judged;
 
-    fn hogunlas_run(
+    fn hogunlas_run_by_thread(
         file: *const u8,
         file_length: usize,
         list: *const u8,
@@ -71,7 +79,7 @@ pub(crate) fn judge(file: &[u8], report: &mut [u8]) -> Judged {
 pub(crate) fn run(file: &[u8], list: &[u8], state: &mut [u8]) -> Ran {
     // SAFETY: each pointer comes with its own slice's length; see the top of this module.
     unsafe {
-        hogunlas_run(
+        hogunlas_run_by_thread(
             file.as_ptr(),
             file.len(),
             list.as_ptr(),

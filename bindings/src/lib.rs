@@ -7,21 +7,48 @@
 //!
 //! The work is done by `libhogunlas.a`, which `rt staticlib hogunlas` makes of proved code. What
 //! is trusted here beside it is the module `ffi`: that the declarations are those of the archive.
+//!
+//! # A table of threads
+//!
+//! [`run`] answers the counts of eight threads. Byte 2 of an accepted file is the number of threads
+//! that it has; this prints the counts of each:
+//!
+//! ```
+//! # let file = [
+//! #     1, 1, 2, 0, 0, 0, 8, 0x20, 0, 0, 0, 0x21, 0, 0, 0, 0, 8, 0x20, 0, 0, 0, 0x21, 0, 0, 0,
+//! # ];
+//! # let list = [0, 1, 0, 1];
+//! let mut state = [0; hogunlas::MAX_STATE];
+//! match hogunlas::run(&file, &list, &mut state) {
+//!     Ok(threads) => {
+//!         println!("thread  moved  waiting  idle");
+//!         for (t, counts) in threads.iter().enumerate().take(file[2].into()) {
+//!             println!("{t:6} {:6} {:8} {:5}", counts.moved, counts.waiting, counts.idle);
+//!         }
+//!     }
+//!     Err(refusal) => println!("{refusal}"),
+//! }
+//! ```
 #![deny(unsafe_code)]
 
 mod ffi;
 
 use std::error::Error;
 use std::fmt;
+use std::iter::Sum;
+use std::ops::Add;
 
 /// The version of the standard that the calls follow: the number before the point.
 pub const STANDARD_MAJOR: u32 = 1;
 
 /// The version of the standard that the calls follow: the number after the point.
-pub const STANDARD_MINOR: u32 = 1;
+pub const STANDARD_MINOR: u32 = 2;
 
 /// The length of the largest file that is not refused.
 pub const MAX_FILE: usize = 33_173;
+
+/// The number of threads that a file has at most, and of those whose counts `run` answers.
+pub const MAX_THREADS: usize = 8;
 
 /// The length of the longest report: a buffer of this length is enough for every file.
 pub const MAX_REPORT: usize = 8_200;
@@ -47,12 +74,12 @@ pub struct Refusal {
 impl Refusal {
     /// The refusal that a call's numbers state, unless its number is 0, which stands for none.
     /// What a call does not state is 0, as the header says; builds for tests look.
-    fn none_or(number: u32, detail: u64, answer: &[u64]) -> Result<(), Refusal> {
+    fn none_or(number: u32, detail: u64, answer_is_0: bool) -> Result<(), Refusal> {
         if number == 0 {
             debug_assert_eq!(detail, 0, "an answer has no detail");
             return Ok(());
         }
-        debug_assert!(answer.iter().all(|&part| part == 0), "a refusal answers");
+        debug_assert!(answer_is_0, "a refusal answers");
         Err(Refusal { number, detail })
     }
 }
@@ -89,11 +116,14 @@ impl Error for Refusal {}
 /// ```
 pub fn judge(file: &[u8], report: &mut [u8]) -> Result<usize, Refusal> {
     let judged = ffi::judge(file, report);
-    Refusal::none_or(judged.refusal, judged.detail, &[judged.length])?;
+    Refusal::none_or(judged.refusal, judged.detail, judged.length == 0)?;
     Ok(judged.length as usize)
 }
 
-/// How many entries of a list were of each kind; their sum is the list's length.
+/// A thread's counts: how many of the list's entries for it were of each kind. The three sum to how
+/// often the list names the thread.
+///
+/// Counts of several threads can be added. Those of all threads of a run sum to the list's length.
 #[derive(Clone, Copy, Debug, Default, PartialEq, Eq, Hash)]
 pub struct Counts {
     pub moved: u64,
@@ -101,8 +131,33 @@ pub struct Counts {
     pub idle: u64,
 }
 
+impl Add for Counts {
+    type Output = Counts;
+
+    fn add(self, other: Counts) -> Counts {
+        Counts {
+            moved: self.moved + other.moved,
+            waiting: self.waiting + other.waiting,
+            idle: self.idle + other.idle,
+        }
+    }
+}
+
+impl Sum for Counts {
+    fn sum<I: Iterator<Item = Counts>>(all: I) -> Counts {
+        all.fold(Counts::default(), Counts::add)
+    }
+}
+
+impl<'c> Sum<&'c Counts> for Counts {
+    fn sum<I: Iterator<Item = &'c Counts>>(all: I) -> Counts {
+        all.copied().sum()
+    }
+}
+
 /// Runs an accepted file from the start through a list of thread numbers, lays the end state over
-/// the front of `state` and answers the counts.
+/// the front of `state` and answers the counts of each thread, by thread number. Those of a thread
+/// that the file does not have are 0.
 ///
 /// The end state has 4 bytes for each variable, 1 for each lock (0 free, or the holder's number
 /// plus 1) and 34 for each thread (its place, then its eight registers), numbers big-endian.
@@ -111,24 +166,33 @@ pub struct Counts {
 /// that names no thread (its index), 16 a buffer shorter than the state (the bytes needed).
 ///
 /// ```
+/// use hogunlas::Counts;
+///
+/// // Two threads, each TAKE k0, GIVE k0.
 /// let file = [
-///     1, 1, 1, 0, 6, 0, 0, 0, 0, 0, 5, 0, 12, 0x20, 0, 0, 0, 0x10, 2, 0, 0, 0x21, 0, 0, 0,
+///     1, 1, 2, 0, 0, 0, 8, 0x20, 0, 0, 0, 0x21, 0, 0, 0, 0, 8, 0x20, 0, 0, 0, 0x21, 0, 0, 0,
 /// ];
 /// let mut state = [0; hogunlas::MAX_STATE];
-/// let counts = hogunlas::run(&file, &[0, 0, 0, 0], &mut state)?;
-/// assert_eq!((counts.moved, counts.waiting, counts.idle), (3, 0, 1));
-/// assert_eq!(state[..7], [0, 0, 0, 5, 0, 0, 3]); // v0, k0, the thread's place
+/// let threads = hogunlas::run(&file, &[0, 1, 0, 1], &mut state)?;
+/// assert_eq!(threads[0], Counts { moved: 2, waiting: 0, idle: 0 });
+/// assert_eq!(threads[1], Counts { moved: 1, waiting: 1, idle: 0 });
+/// assert_eq!(threads[2..], [Counts::default(); 6]); // the file has no such threads
+/// assert_eq!(state[..3], [2, 0, 2]); // k0, held by thread 1, and the place of thread 0
+///
+/// let total: Counts = threads.iter().sum();
+/// assert_eq!(total, Counts { moved: 3, waiting: 1, idle: 0 });
 /// # Ok::<(), hogunlas::Refusal>(())
 /// ```
-pub fn run(file: &[u8], list: &[u8], state: &mut [u8]) -> Result<Counts, Refusal> {
+pub fn run(file: &[u8], list: &[u8], state: &mut [u8]) -> Result<[Counts; MAX_THREADS], Refusal> {
     let ran = ffi::run(file, list, state);
-    let counts = [ran.moved, ran.waiting, ran.idle];
-    Refusal::none_or(ran.refusal, ran.detail, &counts)?;
-    Ok(Counts {
-        moved: ran.moved,
-        waiting: ran.waiting,
-        idle: ran.idle,
-    })
+    let threads = ran.threads.map(|counts| Counts {
+        moved: counts.moved,
+        waiting: counts.waiting,
+        idle: counts.idle,
+    });
+    let none = [Counts::default(); MAX_THREADS];
+    Refusal::none_or(ran.refusal, ran.detail, threads == none)?;
+    Ok(threads)
 }
 
 /// Lays line `i` of an accepted file's printout, its newline included, over the front of `text`
@@ -148,6 +212,6 @@ pub fn run(file: &[u8], list: &[u8], state: &mut [u8]) -> Result<Counts, Refusal
 /// ```
 pub fn line(file: &[u8], i: u64, text: &mut [u8]) -> Result<usize, Refusal> {
     let printed = ffi::line(file, i, text);
-    Refusal::none_or(printed.refusal, printed.detail, &[printed.length])?;
+    Refusal::none_or(printed.refusal, printed.detail, printed.length == 0)?;
     Ok(printed.length as usize)
 }

@@ -1,8 +1,17 @@
 //! That the crate and the header say of the archive what it is, and of the standard which it is.
 
+mod c_compiler;
+#[path = "../src/ffi.rs"]
+#[allow(dead_code)] // its structs are looked at, its calls are the crate's
+mod ffi;
+
 use std::fs;
+use std::mem::{offset_of, size_of};
 use std::path::Path;
 
+use c_compiler::{assert_compiled, compile};
+use ffi::{Counts, Judged, Printed, Ran};
+use hogunlas::MAX_THREADS;
 use hogunlas_reference::{judge, machine, printout, reader, Refusal};
 
 /// The names that the archive defines. Its first member is the index that linkers look them up in:
@@ -27,12 +36,14 @@ fn the_calls_are_the_archives() {
     let mut calls = exported();
     calls.retain(|name| name.starts_with("hogunlas_"));
     calls.sort();
-    assert_eq!(calls, ["hogunlas_judge", "hogunlas_line", "hogunlas_run"]);
+    let wrapped = ["hogunlas_judge", "hogunlas_line", "hogunlas_run_by_thread"];
+    assert_eq!(calls, wrapped);
 }
 
 #[test]
 fn the_limits_are_the_reimplementations() {
     assert_eq!(hogunlas::MAX_FILE, reader::MAX_FILE);
+    assert_eq!(MAX_THREADS, reader::MAX_THREADS);
     assert_eq!(hogunlas::MAX_REPORT, judge::MAX_REPORT);
     assert_eq!(hogunlas::MAX_LIST, machine::MAX_LIST);
     assert_eq!(hogunlas::LINE_BUFFER, printout::LINE_BUFFER);
@@ -46,6 +57,7 @@ fn the_limits_are_the_headers() {
     let header = include_str!("../../include/hogunlas.h");
     for (name, limit) in [
         ("MAX_FILE", hogunlas::MAX_FILE),
+        ("MAX_THREADS", MAX_THREADS),
         ("MAX_REPORT", hogunlas::MAX_REPORT),
         ("MAX_LIST", hogunlas::MAX_LIST),
         ("MAX_STATE", hogunlas::MAX_STATE),
@@ -56,7 +68,42 @@ fn the_limits_are_the_headers() {
     }
 }
 
-/// The version that the standard gives itself, by its line `Version 1.1.`.
+/// What C has to say of a struct: its size, and offset and size of each member, as in `src/ffi.rs`.
+macro_rules! layout {
+    ($c:literal, $rust:ty, $($member:ident),+) => {
+        vec![
+            (format!("sizeof({})", $c), size_of::<$rust>()),
+            $(
+                (format!("offsetof({}, {})", $c, stringify!($member)), offset_of!($rust, $member)),
+                (
+                    format!("sizeof((({} *)0)->{})", $c, stringify!($member)),
+                    size_of_member(|of: &$rust| &of.$member),
+                ),
+            )+
+        ]
+    };
+}
+
+fn size_of_member<S, M>(_member: fn(&S) -> &M) -> usize {
+    size_of::<M>()
+}
+
+#[test]
+fn the_structs_are_the_headers() {
+    let layouts = [
+        layout!("hogunlas_judged", Judged, refusal, detail, length),
+        layout!("hogunlas_counts", Counts, moved, waiting, idle),
+        layout!("hogunlas_ran", Ran, refusal, detail, threads),
+        layout!("hogunlas_printed", Printed, refusal, detail, length),
+    ];
+    let mut program = String::from("#include \"hogunlas.h\"\n");
+    for (what, number) in layouts.concat() {
+        program += &format!("_Static_assert({what} == {number}, \"{what}\");\n");
+    }
+    assert_compiled(&compile(&program, &["-fsyntax-only"]));
+}
+
+/// The version that the standard gives itself, by its line `Version 1.2.`.
 fn standard_version() -> String {
     let page = Path::new(env!("CARGO_MANIFEST_DIR")).join("../docs/STANDARD.md");
     let text = fs::read_to_string(page).expect("docs/STANDARD.md");

@@ -118,33 +118,42 @@ fn judge_answers_as_stated() {
 
 mod run {
     use super::*;
-    use hogunlas::Counts;
+    use hogunlas::{Counts, MAX_STATE, MAX_THREADS};
     use hogunlas_reference::generate::encode_file;
     use hogunlas_reference::instruction::Instruction::*;
+    use support::{as_ours, assert_sums};
 
-    fn counts(moved: u64, waiting: u64, idle: u64) -> Counts {
-        Counts {
-            moved,
-            waiting,
-            idle,
+    /// What run answers: the counts of each thread.
+    type Threads = [Counts; MAX_THREADS];
+
+    /// Moved, waiting and idle of a file's threads; of all others they are 0.
+    fn counts<const N: usize>(stated: [(u64, u64, u64); N]) -> Threads {
+        let mut threads = [Counts::default(); MAX_THREADS];
+        for (counts, (moved, waiting, idle)) in threads.iter_mut().zip(stated) {
+            *counts = Counts {
+                moved,
+                waiting,
+                idle,
+            };
         }
+        threads
     }
 
-    /// Calls run on both sides with a buffer of 80 bytes, and answers the counts and the state.
-    fn run(name: &str, file: &[u8], list: &[u8]) -> Result<(Counts, Vec<u8>), Refusal> {
+    /// Calls run on both sides with the longest buffer, and answers the counts and the state.
+    fn run(name: &str, file: &[u8], list: &[u8]) -> Result<(Threads, Vec<u8>), Refusal> {
         let mut state = Vec::new();
-        let wanted = lend(5, 80, |buffer| {
-            let answer = hogunlas_reference::run(file, list, buffer)?;
-            Ok::<_, hogunlas_reference::Refusal>(counts(answer.moved, answer.waiting, answer.idle))
+        let wanted = lend(5, MAX_STATE, |buffer| {
+            hogunlas_reference::run(file, list, buffer).map(as_ours)
         });
-        let ran = lend(5, 80, |buffer| {
-            let answer = hogunlas::run(file, list, buffer)?;
+        let ran = lend(5, MAX_STATE, |buffer| {
+            let threads = hogunlas::run(file, list, buffer)?;
+            assert_sums(&threads, file, list, format_args!("{name}, {list:?}"));
             let used = hogunlas_reference::state_length(file).expect("an accepted file");
             state = buffer[..used].to_vec();
-            Ok::<Counts, Refusal>(answer)
+            Ok::<Threads, Refusal>(threads)
         });
         ran.assert_is(&wanted, format_args!("run, {name}, {list:?}"));
-        ran.answer.map(|counts| (counts, state))
+        ran.answer.map(|threads| (threads, state))
     }
 
     /// Initial values, then zeros for the locks, places and registers.
@@ -161,12 +170,12 @@ mod run {
     fn the_empty_list_gives_the_start_state() {
         let example = stored::one(stored::EXAMPLES, "standard");
         let (counted, state) = run("standard", &example.file, &[]).expect("an answer");
-        assert_eq!(counted, counts(0, 0, 0));
+        assert_eq!(counted, counts([]));
         assert_eq!(state[..5], [0, 0, 0, 5, 0]);
         assert_eq!(state[5..], [0; 34]);
         each_stated(|case, stated| {
             let answer = run(&case.name, &case.file, &[]);
-            let wanted = stated.map(|_| (counts(0, 0, 0), start_state(&case.file)));
+            let wanted = stated.map(|_| (counts([]), start_state(&case.file)));
             assert_eq!(answer, wanted.map_err(refused), "{}", case.name);
         });
     }
@@ -175,12 +184,31 @@ mod run {
     fn two_threads_take_turns_at_a_lock() {
         let case = stored::one(stored::CASES, "two_threads");
         let (counted, state) = run(&case.name, &case.file, &[0, 1, 0, 1]).expect("an answer");
-        assert_eq!(counted, counts(3, 1, 0));
+        assert_eq!(counted, counts([(2, 0, 0), (1, 1, 0)]));
         let mut wanted = [0; 69];
         wanted[0] = 2; // k0 is held by thread 1
         wanted[2] = 2; // the place of thread 0
         wanted[36] = 1; // and of thread 1
         assert_eq!(state, wanted);
+    }
+
+    /// Thread t makes t moves before it takes k0. Thread 0 takes it, and the others wait t + 1 times
+    /// each, until thread 0 gives it and is idle three times: so no two threads have equal counts.
+    #[test]
+    fn each_of_eight_threads_has_its_own_counts() {
+        let code = |t: u8| {
+            let set = Set { to: 0, number: 1 };
+            let taking = [Take { lock: 0 }, Give { lock: 0 }];
+            [vec![set; t.into()], taking.to_vec()].concat()
+        };
+        let codes: Vec<_> = (0..8).map(code).collect();
+        let file = encode_file(1, &[], &codes);
+        let others = (1..8).flat_map(|t| vec![t; 2 * usize::from(t) + 1]);
+        let list: Vec<u8> = [0].into_iter().chain(others).chain([0; 4]).collect();
+        let (counted, _) = run("eight", &file, &list).expect("an answer");
+        let mut wanted = [0, 1, 2, 3, 4, 5, 6, 7].map(|t| (t, t + 1, 0));
+        wanted[0] = (2, 0, 3);
+        assert_eq!(counted, counts(wanted));
     }
 
     #[test]
@@ -195,7 +223,7 @@ mod run {
         ];
         let file = encode_file(0, &[own_full], &[code]);
         let (counted, state) = run("add", &file, &[0, 0, 0, 0]).expect("an answer");
-        assert_eq!(counted, counts(4, 0, 0));
+        assert_eq!(counted, counts([(4, 0, 0)]));
         let registers = &state[6..];
         assert_eq!(registers[4..8], [0, 0, 0, 1]);
         assert_eq!(registers[8..12], [0xFF; 4]);

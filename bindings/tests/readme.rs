@@ -1,12 +1,15 @@
-//! What the repository's README shows of `run` is what the compiled library answers, and the version
-//! of the standard that it names is this crate's.
+//! What the repository's README shows of `run` is what the compiled library answers; its lines of C
+//! print so, and its lines of Rust are the crate's example. The version of the standard that it names
+//! is this crate's.
 
+mod c_compiler;
 mod stored;
 
 use std::fs;
 use std::path::Path;
 
-use hogunlas::Counts;
+use c_compiler::{assert_compiled, built, link, printed};
+use hogunlas::{Counts, MAX_THREADS};
 use hogunlas_reference::machine::{Outcome, State};
 use hogunlas_reference::reader::Program;
 
@@ -31,12 +34,15 @@ fn list_between(text: &str, before: &str, after: &str) -> Vec<u8> {
     list_of(rest.split_once(after).expect(after).0)
 }
 
-/// What `run` answers for the ascent: counts and the bytes of the end state.
-fn ran(list: &[u8]) -> (Counts, Vec<u8>) {
-    let file = stored::one(stored::EXAMPLES, "ascent").file;
+fn ascent() -> Vec<u8> {
+    stored::one(stored::EXAMPLES, "ascent").file
+}
+
+/// What `run` answers for the ascent: the counts of each thread and the bytes of the end state.
+fn ran(list: &[u8]) -> ([Counts; MAX_THREADS], Vec<u8>) {
     let mut state = [0; hogunlas::MAX_STATE];
-    let counts = hogunlas::run(&file, list, &mut state).expect("an accepted file");
-    (counts, state[..102].to_vec())
+    let threads = hogunlas::run(&ascent(), list, &mut state).expect("an accepted file");
+    (threads, state[..102].to_vec())
 }
 
 /// Numbers of 4 bytes.
@@ -45,14 +51,23 @@ fn numbers(bytes: &[u8]) -> Vec<u32> {
     bytes.chunks(4).map(number).collect()
 }
 
-/// The answer as the README decodes it. The ascent has 8 variables, 2 locks and 2 threads.
-fn decoded(counts: Counts, state: &[u8]) -> String {
-    let Counts {
-        moved,
-        waiting,
-        idle,
-    } = counts;
-    let mut text = format!("moved {moved} waiting {waiting} idle {idle}\n");
+/// The counts as the README shows them: a row for each of these threads.
+fn table(threads: &[Counts]) -> String {
+    let mut text = String::from("thread  moved  waiting  idle\n");
+    for (number, counts) in threads.iter().enumerate() {
+        let Counts {
+            moved,
+            waiting,
+            idle,
+        } = counts;
+        text += &format!("{number:>6} {moved:>6} {waiting:>8} {idle:>5}\n");
+    }
+    text
+}
+
+/// The state as the README decodes it. The ascent has 8 variables, 2 locks and 2 threads.
+fn decoded(state: &[u8]) -> String {
+    let mut text = String::new();
     for (number, value) in numbers(&state[..32]).iter().enumerate() {
         text += &format!("v{number} {value}\n");
     }
@@ -78,9 +93,50 @@ fn the_worked_run_is_the_librarys() {
     let text = readme();
     let (_, block) = text.split_once("```\nlist ").expect("a worked run");
     let (list, rest) = block.split_once('\n').expect("an end state");
-    let (counts, state) = ran(&list_of(list));
+    let (threads, state) = ran(&list_of(list));
     let shown = rest.split_once("```").expect("the end of the block").0;
-    assert_eq!(shown, decoded(counts, &state));
+    assert_eq!(shown, table(&threads[..2]) + &decoded(&state));
+    assert_eq!(threads[2..], [Counts::default(); 6]);
+}
+
+/// What stands in the README between the two fences of its only block in this language.
+fn lines_in(language: &str) -> String {
+    let (text, fence) = (readme(), format!("```{language}\n"));
+    let (_, rest) = text.split_once(&fence).expect(language);
+    assert!(!rest.contains(&fence), "two blocks of {language}");
+    let (lines, _) = rest.split_once("```").expect("the end of the block");
+    lines.to_string()
+}
+
+/// The README's lines of C as a program over the ascent and a list.
+fn c_program(list: &[u8]) -> String {
+    let lines = lines_in("c");
+    let (include, statements) = lines.split_once("\n\n").expect("an include");
+    let elements = |bytes: &[u8]| -> String { bytes.iter().map(|n| format!("{n},")).collect() };
+    let (file, list) = (elements(&ascent()), elements(list));
+    format!(
+        "#include <stdio.h>\n{include}\n\
+         static const uint8_t file[] = {{{file}}};\n\
+         static const uint8_t list[] = {{{list}}};\n\
+         static const size_t file_length = sizeof file, list_length = sizeof list;\n\
+         int main(void)\n{{\n{statements}return 0;\n}}\n"
+    )
+}
+
+#[test]
+fn the_lines_of_c_print_the_table() {
+    let list = list_between(&readme(), "```\nlist ", "\n");
+    let program = built("readme");
+    assert_compiled(&link(&c_program(&list), &program));
+    assert_eq!(printed(&program), table(&ran(&list).0[..2]));
+}
+
+/// The crate's example is compiled and executed with its documentation.
+#[test]
+fn the_lines_of_rust_are_the_crates_example() {
+    let lines = lines_in("rust");
+    let example: String = lines.lines().map(|line| format!("//! {line}\n")).collect();
+    assert!(include_str!("../src/lib.rs").contains(&example), "{lines}");
 }
 
 /// Whether every entry moves while nobody else stands inside a block.
@@ -94,18 +150,18 @@ fn is_uninterrupted(program: &Program, list: &[u8]) -> bool {
 }
 
 /// The README's list in which each block is one step: uninterrupted, which the worked run is not,
-/// with as many moves and the same end state.
+/// with as many moves of each thread and the same end state.
 #[test]
 fn the_uninterrupted_list_ends_alike() {
     let text = readme();
     let given = list_between(&text, "```\nlist ", "\n");
     let uninterrupted = list_between(&text, "the list `", "` is uninterrupted");
-    let file = stored::one(stored::EXAMPLES, "ascent").file;
+    let file = ascent();
     let program = Program::read(&file).expect("a sound file");
     assert!(!is_uninterrupted(&program, &given));
     assert!(is_uninterrupted(&program, &uninterrupted));
     let ((given, state), (counts, alike)) = (ran(&given), ran(&uninterrupted));
-    assert_eq!(given.moved, counts.moved);
+    assert_eq!(given.map(|of| of.moved), counts.map(|of| of.moved));
     assert_eq!(state, alike);
 }
 

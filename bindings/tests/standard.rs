@@ -5,12 +5,12 @@
 #[allow(dead_code)] // the tally is for generated files
 mod support;
 
-use hogunlas::{LINE_BUFFER, MAX_REPORT, MAX_STATE};
+use hogunlas::{LINE_BUFFER, MAX_REPORT, MAX_STATE, MAX_THREADS};
 use hogunlas_reference::standard::examples::{self, Answers};
 use hogunlas_reference::standard::notation::number;
 use hogunlas_reference::standard::Page;
 use hogunlas_reference::{state_length, Counts, Refusal};
-use support::lend;
+use support::{assert_sums, lend};
 
 struct Library;
 
@@ -19,6 +19,15 @@ fn refused(refusal: hogunlas::Refusal) -> Refusal {
     Refusal {
         number: refusal.number,
         detail: refusal.detail,
+    }
+}
+
+/// The counts as the reimplementation's.
+fn as_theirs(counts: hogunlas::Counts) -> Counts {
+    Counts {
+        moved: counts.moved,
+        waiting: counts.waiting,
+        idle: counts.idle,
     }
 }
 
@@ -42,15 +51,16 @@ impl Answers for Library {
         Ok(report[..length].to_vec())
     }
 
-    fn run(&self, file: &[u8], list: &[u8]) -> Result<(Counts, Vec<u8>), Refusal> {
-        let (ran, state) = answered(MAX_STATE, |buffer| hogunlas::run(file, list, buffer))?;
-        let counts = Counts {
-            moved: ran.moved,
-            waiting: ran.waiting,
-            idle: ran.idle,
-        };
+    fn run(&self, file: &[u8], list: &[u8]) -> Result<([Counts; MAX_THREADS], Vec<u8>), Refusal> {
+        let (threads, state) = answered(MAX_STATE, |buffer| hogunlas::run(file, list, buffer))?;
+        assert_sums(
+            &threads,
+            file,
+            list,
+            format_args!("run, {file:?}, {list:?}"),
+        );
         let length = state_length(file).expect("an accepted file");
-        Ok((counts, state[..length].to_vec()))
+        Ok((threads.map(as_theirs), state[..length].to_vec()))
     }
 
     fn line(&self, file: &[u8], i: u64) -> Result<Vec<u8>, Refusal> {
@@ -68,7 +78,7 @@ fn every_block_is_what_the_calls_answer() {
 fn every_table_of_answers_is_what_the_calls_answer() {
     let page = Page::read();
     assert!(examples::judged_tables(&page, &Library) >= 68);
-    assert!(examples::run_table(&page, &Library) >= 9);
+    assert!(examples::run_table(&page, &Library) >= 10);
 }
 
 #[test]
@@ -84,6 +94,7 @@ fn the_limits_are_the_standards() {
     let page = Page::read();
     let table = page.table("limit | figure | how it is made up");
     for (name, limit) in [
+        ("threads", MAX_THREADS),
         ("bytes of a file", hogunlas::MAX_FILE),
         ("bytes of a report", MAX_REPORT),
         ("bytes of a state", MAX_STATE),

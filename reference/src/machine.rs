@@ -1,6 +1,9 @@
 //! The step machine: one entry of the list is one step of a thread ("The step machine"; refusals
 //! 14 to 16).
 
+use std::iter::Sum;
+use std::ops::Add;
+
 use crate::instruction::Instruction::{self, Atomic};
 use crate::instruction::REGISTERS;
 use crate::op::{self, Word};
@@ -14,7 +17,7 @@ const VARIABLE_STATE: usize = 4;
 const LOCK_STATE: usize = 1;
 const THREAD_STATE: usize = 2 + 4 * REGISTERS;
 
-/// How many entries of a list were of each kind.
+/// How many entries of a list were of each kind: those of one thread, or a sum over threads.
 #[derive(Clone, Copy, Debug, Default, PartialEq, Eq)]
 pub struct Counts {
     pub moved: u64,
@@ -22,9 +25,40 @@ pub struct Counts {
     pub idle: u64,
 }
 
+impl Counts {
+    /// How many entries they are of all kinds.
+    pub fn entries(self) -> u64 {
+        self.moved + self.waiting + self.idle
+    }
+}
+
+impl Add for Counts {
+    type Output = Counts;
+
+    fn add(self, other: Counts) -> Counts {
+        Counts {
+            moved: self.moved + other.moved,
+            waiting: self.waiting + other.waiting,
+            idle: self.idle + other.idle,
+        }
+    }
+}
+
+impl Sum for Counts {
+    fn sum<I: Iterator<Item = Counts>>(all: I) -> Counts {
+        all.fold(Counts::default(), Add::add)
+    }
+}
+
+impl<'c> Sum<&'c Counts> for Counts {
+    fn sum<I: Iterator<Item = &'c Counts>>(all: I) -> Counts {
+        all.copied().sum()
+    }
+}
+
 /// Runs an accepted file from the start through the list, lays the end state over the front of
-/// `out` and answers the counts.
-pub fn run(file: &[u8], list: &[u8], out: &mut [u8]) -> Result<Counts, Refusal> {
+/// `out` and answers each thread's counts; those of absent threads are 0.
+pub fn run(file: &[u8], list: &[u8], out: &mut [u8]) -> Result<[Counts; MAX_THREADS], Refusal> {
     let program = Program::read_accepted(file)?;
     check_list(&program, list)?;
     check_buffer(out, State::length(&program))?;
@@ -106,24 +140,39 @@ impl State {
         state
     }
 
-    /// Steps through a list of existing threads. (Never inlined, so that the loop has the
-    /// processor's registers to itself.)
+    /// Steps through a list of existing threads and answers each thread's counts; those of absent
+    /// threads are 0.
+    pub fn run(&mut self, program: &Program, list: &[u8]) -> [Counts; MAX_THREADS] {
+        let tallies = self.step_through(program, list);
+        let mut counts = [Counts::default(); MAX_THREADS];
+        for (thread, tally) in tallies.iter().enumerate().take(program.thread_count()) {
+            counts[thread] = tally.counts(list, thread as u8);
+        }
+        counts
+    }
+
+    /// Steps to the list's end, or until every thread has had an idle entry: then only idle ones
+    /// are left. (Never inlined, so that the loop has the processor's registers to itself.)
     #[inline(never)]
-    pub fn run(&mut self, program: &Program, list: &[u8]) -> Counts {
-        let code = program.all_words();
-        let (mut waiting, mut idle) = (0, 0);
-        for &entry in list {
-            match self.step_in(code[usize::from(entry) % MAX_THREADS], entry) {
+    fn step_through<'f>(&mut self, program: &Program<'f>, list: &[u8]) -> [Tally<'f>; MAX_THREADS] {
+        let mut tallies = program.all_words().map(|code| Tally::new(code, list));
+        let mut not_ended = program.thread_count();
+        for (index, &entry) in list.iter().enumerate() {
+            let tally = &mut tallies[usize::from(entry) % MAX_THREADS];
+            match self.step_in(tally.code, entry) {
                 Outcome::Moved => {}
-                Outcome::Waiting => waiting += 1,
-                Outcome::Idle => idle += 1,
+                Outcome::Waiting => tally.waiting += 1,
+                Outcome::Idle if index < tally.first_idle => {
+                    tally.note_first_idle(index);
+                    not_ended -= 1;
+                    if not_ended == 0 {
+                        break;
+                    }
+                }
+                Outcome::Idle => {}
             }
         }
-        Counts {
-            moved: list.len() as u64 - waiting - idle,
-            waiting,
-            idle,
-        }
+        tallies
     }
 
     /// One step of an existing thread of a sound program.
@@ -195,6 +244,58 @@ impl State {
             write_numbers(&thread.registers, registers);
         }
     }
+}
+
+/// What is noted of a thread's entries while a list is stepped through, beside the thread's code,
+/// so that one index finds both.
+///
+/// A thread at its end stays there, so all its entries are idle from its first idle one on. So the
+/// loop counts nothing for most entries: moved and idle are worked out afterwards.
+struct Tally<'f> {
+    code: &'f [Word],
+    waiting: u64,
+    /// The index of the first idle entry; the list's length if there is none.
+    first_idle: usize,
+}
+
+impl<'f> Tally<'f> {
+    fn new(code: &'f [Word], list: &[u8]) -> Tally<'f> {
+        Tally {
+            code,
+            waiting: 0,
+            first_idle: list.len(),
+        }
+    }
+
+    /// Cold, since a thread has only one first idle entry: so the loop is laid out for later ones.
+    #[cold]
+    fn note_first_idle(&mut self, index: usize) {
+        self.first_idle = index;
+    }
+
+    /// The counts of the thread of this number.
+    fn counts(&self, list: &[u8], thread: u8) -> Counts {
+        let (before, from_first_idle) = list.split_at(self.first_idle);
+        Counts {
+            moved: occurrences(before, thread) - self.waiting,
+            waiting: self.waiting,
+            idle: occurrences(from_first_idle, thread),
+        }
+    }
+}
+
+/// How often a list names a thread. The entries of a piece are counted in one byte, so that the
+/// compiler uses vector instructions on bytes: a piece is as long as a byte and whole vectors
+/// allow.
+fn occurrences(list: &[u8], thread: u8) -> u64 {
+    const PIECE: usize = 224;
+    let in_piece = |piece: &[u8]| {
+        let named = piece.iter().map(|&entry| u8::from(entry == thread));
+        u64::from(named.sum::<u8>())
+    };
+    let (pieces, rest) = list.as_chunks::<PIECE>();
+    let in_pieces: u64 = pieces.iter().map(|piece| in_piece(piece)).sum();
+    in_pieces + in_piece(rest)
 }
 
 /// Writes as many numbers as there is room for, big-endian.

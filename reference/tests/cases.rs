@@ -3,7 +3,7 @@
 
 mod common;
 
-use common::{file, hex, judge_in, line_in, refused, run_in};
+use common::{counts, file, hex, judge_in, line_in, refused, run_in};
 use hogunlas_reference::atomicity::Atomicity;
 use hogunlas_reference::instruction::Instruction::{self, *};
 use hogunlas_reference::machine::{is_inside, Outcome, State, Thread};
@@ -92,8 +92,8 @@ fn add_wraps_to_zero() {
         right: 1,
     };
     let file = file(0, &[own_full], &[&[READ, Set { to: 1, number: 1 }, sum]]);
-    let (counts, state) = run_in(50, &file, &[0, 0, 0], 38).unwrap();
-    assert_eq!(counts.moved, 3);
+    let (counted, state) = run_in(50, &file, &[0, 0, 0], 38).unwrap();
+    assert_eq!(counted, counts(&[[3, 0, 0]]));
     let registers = &state[6..];
     assert_eq!(&registers[4..16], hex("00000001 FFFFFFFF 00000000"));
 }
@@ -135,13 +135,14 @@ fn block_of_read_open_take_give_is_refused_if_another_thread_writes() {
 #[test]
 fn two_threads_take_turns_at_a_lock() {
     let file = file(1, &[], &[&[TAKE, GIVE], &[TAKE, GIVE]]);
-    let (counts, state) = run_in(80, &file, &[0, 1, 0, 1], 69).unwrap();
-    let expected = Counts {
+    let (counted, state) = run_in(80, &file, &[0, 1, 0, 1], 69).unwrap();
+    assert_eq!(counted, counts(&[[2, 0, 0], [1, 1, 0]]));
+    let all_threads = Counts {
         moved: 3,
         waiting: 1,
         idle: 0,
     };
-    assert_eq!(counts, expected);
+    assert_eq!(counted.iter().sum::<Counts>(), all_threads);
     assert_eq!(state[0], 2, "k0 is held by thread 1");
     assert_eq!((state[1], state[2]), (0, 2), "place of thread 0");
     assert_eq!((state[35], state[36]), (0, 1), "place of thread 1");
@@ -160,11 +161,25 @@ fn empty_file_is_refused_at_0() {
 #[test]
 fn empty_list_gives_the_start_state() {
     let file = file(2, &[GUARDED_BY_K0, OPEN], &[&[TAKE, GIVE], &[]]);
-    let (counts, state) = run_in(90, &file, &[], 78).unwrap();
-    assert_eq!(counts, Counts::default());
+    let (counted, state) = run_in(90, &file, &[], 78).unwrap();
+    assert_eq!(counted, counts(&[]));
     let mut start = hex("00000005 00000007");
     start.resize(78, 0);
     assert_eq!(state, start);
+}
+
+/// Two threads at a lock and one whose code is empty, and a list in which they differ.
+fn own_counts() -> (Vec<u8>, [u8; 7]) {
+    let file = file(1, &[], &[&[TAKE, GIVE], &[TAKE, GIVE], &[]]);
+    (file, [0, 1, 2, 1, 2, 0, 1])
+}
+
+#[test]
+fn each_entry_counts_for_its_own_thread() {
+    let (file, list) = own_counts();
+    let (counted, state) = run_in(110, &file, &list, 103).unwrap();
+    assert_eq!(counted, counts(&[[2, 0, 0], [1, 2, 0], [0, 0, 2]]));
+    assert_eq!(state[0], 2, "k0 is held by thread 1");
 }
 
 #[test]
@@ -345,13 +360,8 @@ fn the_example_prints_its_ten_lines() {
 fn the_example_reads_its_variable() {
     let file = hex(EXAMPLE);
     assert_eq!(state_length(&file), Ok(39));
-    let (counts, state) = run_in(39, &file, &[0, 0, 0, 0], 39).unwrap();
-    let expected = Counts {
-        moved: 3,
-        waiting: 0,
-        idle: 1,
-    };
-    assert_eq!(counts, expected);
+    let (counted, state) = run_in(39, &file, &[0, 0, 0, 0], 39).unwrap();
+    assert_eq!(counted, counts(&[[3, 0, 1]]));
     let mut end = hex("00000005 00 0003 00000000 00000000 00000005");
     end.resize(39, 0);
     assert_eq!(state, end);
@@ -375,21 +385,30 @@ fn refusal_of(name: &str, refusal: Refusal) -> String {
     format!("{name}: refused {} at {}\n", refusal.number, refusal.detail)
 }
 
+/// What `crates/cases` prints of a run into a buffer of 255s, one byte longer than the state.
+fn ran(name: &str, file: &[u8], list: &[u8]) -> String {
+    let needed = state_length(file).unwrap();
+    let (counted, state) = run_in(needed, file, list, needed).unwrap();
+    let of_thread = |counts: &Counts| {
+        let Counts {
+            moved,
+            waiting,
+            idle,
+        } = counts;
+        format!(" {moved}/{waiting}/{idle}")
+    };
+    let counts: String = counted.iter().map(of_thread).collect();
+    format!("{name}: counts{counts}, buffer{} 255\n", numbers(&state))
+}
+
 fn empty_cases() -> String {
     let run = run_in(40, &[], &[], 0).unwrap_err();
     let line = line_in(48, &[], 0).unwrap_err();
-    let (counts, state) = run_in(40, &hex(EXAMPLE), &[], 39).unwrap();
-    let Counts {
-        moved,
-        waiting,
-        idle,
-    } = counts;
     [
         judged("empty file, judge", judge_in(10, &[])),
         refusal_of("empty file, run", run),
         refusal_of("empty file, line", line),
-        format!("empty list: moved {moved}, waiting {waiting}, idle {idle}, "),
-        format!("buffer{} 255\n", numbers(&state)),
+        ran("empty list", &hex(EXAMPLE), &[]),
     ]
     .concat()
 }
@@ -480,8 +499,10 @@ fn the_test_program_prints_these_answers() {
     let else_reads = [choice(&[TAKE, READ], &[READ]), vec![GIVE]].concat();
     let joined = Atomicity::L.join(Atomicity::R).report_byte();
     let name = "WHILE around TAKE, GIVE";
+    let (own, own_list) = own_counts();
     let lines = [
         empty_cases(),
+        ran("own counts", &own, &own_list),
         of("16 entries open", GUARDED_BY_K0, &nested(16)),
         of("17 entries open", GUARDED_BY_K0, &nested(17)),
         of("READ before TAKE", GUARDED_BY_K0, &[READ, TAKE, GIVE]),

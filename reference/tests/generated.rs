@@ -5,12 +5,12 @@ mod common;
 
 use std::collections::BTreeMap;
 
-use common::{judge_in, line_in, run_in};
+use common::{judge_in, line_in, named, run_in, stepped, written};
 use hogunlas_reference::generate::{self, Rng};
 use hogunlas_reference::instruction::Instruction::{self, *};
-use hogunlas_reference::machine::State;
-use hogunlas_reference::reader::{Kind, Program};
-use hogunlas_reference::{bench, judge, line_count, report_length, state_length, Refusal};
+use hogunlas_reference::machine::{Outcome, State};
+use hogunlas_reference::reader::{Kind, Program, MAX_THREADS};
+use hogunlas_reference::{bench, judge, line_count, report_length, state_length, Counts, Refusal};
 
 const FILES: u64 = 20_000;
 
@@ -138,37 +138,133 @@ fn a_refusals_offset_lies_within_the_file() {
 #[test]
 fn run_meets_every_refusal_and_its_counts_add_up() {
     let mut tally = Tally::default();
-    let mut totals = [0; 3];
+    let mut total = Counts::default();
     for seed in 0..FILES {
         let rng = &mut Rng::new(seed);
         let file = generate::file(rng);
-        let threads = file.get(2).map_or(1, |&n| usize::from(n).clamp(1, 8));
-        let list = generate::list(rng, threads);
+        let list = list_for(rng, &file);
         let needed = state_length(&file).unwrap_or(40);
         let answer = run_in(buffer_length(rng, needed), &file, &list, needed);
         tally.add(&answer);
         if let Ok((counts, state)) = answer {
-            let sum = counts.moved + counts.waiting + counts.idle;
-            assert_eq!(sum, list.len() as u64, "seed {seed}");
-            assert_eq!(state, stepped_by_halves(&file, &list), "seed {seed}");
-            let kinds = [counts.moved, counts.waiting, counts.idle];
-            totals.iter_mut().zip(kinds).for_each(|(all, n)| *all += n);
+            let entries = counts.map(|counts| counts.entries());
+            assert_eq!(entries, named(&list), "seed {seed}");
+            let sum: Counts = counts.iter().sum();
+            assert_eq!(sum.entries(), list.len() as u64, "seed {seed}");
+            let by_halves = stepped_by_halves(&file, &list);
+            assert_eq!((counts, state), by_halves, "seed {seed}");
+            total = total + sum;
         }
     }
     tally.assert_met((0..=13).chain([14, 15, 16]));
-    assert!(totals.iter().all(|&total| total > 10_000), "{totals:?}");
+    let kinds = [total.moved, total.waiting, total.idle];
+    assert!(kinds.iter().all(|&kind| kind > 10_000), "{total:?}");
 }
 
-/// The end state of the list run in two parts, the second from what the first left.
-fn stepped_by_halves(file: &[u8], list: &[u8]) -> Vec<u8> {
+/// A list of any kind for the number of threads that a file states.
+fn list_for(rng: &mut Rng, file: &[u8]) -> Vec<u8> {
+    let threads = file.get(2).map_or(1, |&n| usize::from(n).clamp(1, 8));
+    generate::list(rng, threads)
+}
+
+/// The counts and the end state of the list run in two parts, the second from what the first left.
+fn stepped_by_halves(file: &[u8], list: &[u8]) -> ([Counts; MAX_THREADS], Vec<u8>) {
     let program = Program::read(file).unwrap();
     let mut state = State::start(&program);
     let (first, second) = list.split_at(list.len() / 2);
-    state.run(&program, first);
-    state.run(&program, second);
-    let mut bytes = vec![0; State::length(&program)];
-    state.write(&program, &mut bytes);
-    bytes
+    let mut counts = state.run(&program, first);
+    for (counts, more) in counts.iter_mut().zip(state.run(&program, second)) {
+        *counts = *counts + more;
+    }
+    (counts, written(&program, &state))
+}
+
+/// Shows accepted files, each with a list of its threads.
+fn each_run(mut show: impl FnMut(&[u8], &[u8], u64)) {
+    for seed in 0..FILES {
+        let rng = &mut Rng::new(seed);
+        let file = match rng.below(4) {
+            0 => generate::small_accepted_file(rng),
+            _ => generate::accepted_file(rng),
+        };
+        let longest = if rng.chance(10) { 5_000 } else { 500 };
+        let length = rng.between(0, longest);
+        let list = generate::good_list(rng, usize::from(file[2]), length);
+        show(&file, &list, seed);
+    }
+}
+
+/// Each thread's counts are those of one step after the other. The three sum to how often the list
+/// names the thread, and all together to the list's length; those of absent threads are 0.
+#[test]
+fn each_threads_counts_are_those_of_its_steps() {
+    each_run(|file, list, seed| {
+        let needed = state_length(file).unwrap();
+        let ran = run_in(needed, file, list, needed).unwrap();
+        assert_eq!(ran, stepped(file, list), "seed {seed}");
+        let (counts, _) = ran;
+        let entries = counts.map(|counts| counts.entries());
+        assert_eq!(entries, named(list), "seed {seed}");
+        let sum: u64 = entries.iter().sum();
+        assert_eq!(sum, list.len() as u64, "seed {seed}");
+        let absent = &counts[usize::from(file[2])..];
+        let none = Counts::default();
+        assert!(absent.iter().all(|&counts| counts == none), "seed {seed}");
+    });
+}
+
+/// The runs reach what they must so that a count of the wrong thread, or of all threads together,
+/// shows.
+#[test]
+fn the_counts_of_threads_differ_in_every_way() {
+    let mut seen: BTreeMap<&str, u32> = BTreeMap::new();
+    each_run(|file, list, _| {
+        for (what, is_so) in facts(file, list) {
+            *seen.entry(what).or_default() += u32::from(is_so);
+        }
+    });
+    assert!(seen.values().all(|&count| count > 100), "{seen:?}");
+}
+
+/// What can be so of a run.
+fn facts(file: &[u8], list: &[u8]) -> [(&'static str, bool); 7] {
+    let (counts, _) = stepped(file, list);
+    let threads = usize::from(file[2]);
+    let waiting = counts.iter().filter(|counts| counts.waiting > 0).count();
+    let moved = counts.iter().filter(|counts| counts.moved > 0).count();
+    let all_kinds = |c: &Counts| c.moved > 0 && c.waiting > 0 && c.idle > 0;
+    [
+        ("two threads wait", waiting >= 2),
+        ("one of several threads waits", waiting == 1 && moved >= 2),
+        (
+            "one moves, another is at its end",
+            moves_after_idle(file, list),
+        ),
+        ("one moves, waits and is idle", counts.iter().any(all_kinds)),
+        ("a thread is absent", threads < MAX_THREADS),
+        ("no thread is absent", threads == MAX_THREADS),
+        ("a thread is not named", is_unnamed(file, list)),
+    ]
+}
+
+/// Whether there is a move after an idle entry. It is of another thread: an idle one stays at its
+/// end.
+fn moves_after_idle(file: &[u8], list: &[u8]) -> bool {
+    let program = Program::read(file).unwrap();
+    let mut state = State::start(&program);
+    let mut was_idle = false;
+    list.iter().any(|&entry| {
+        let outcome = state.step(&program, entry);
+        was_idle |= outcome == Outcome::Idle;
+        was_idle && outcome == Outcome::Moved
+    })
+}
+
+/// Whether a list that is not empty names some thread of the file nowhere.
+fn is_unnamed(file: &[u8], list: &[u8]) -> bool {
+    let named = named(list);
+    let present = &named[..usize::from(file[2])];
+    !list.is_empty() && present.contains(&0)
 }
 
 #[test]

@@ -1,12 +1,15 @@
-//! Where reading and judging in one pass after a search for WRITEs, tests by masks, and vector
-//! instructions could go wrong: fields at their limits, offences of different kinds in one file,
-//! offences and WRITEs at the first and the last place, and codes of no and of 1,024 instructions.
+//! Where reading and judging in one pass after a search for WRITEs, tests by masks, vector
+//! instructions, and counts worked out after the steps could go wrong: fields at their limits,
+//! offences of different kinds in one file, offences and WRITEs at the first and the last place,
+//! codes of no and of 1,024 instructions, and threads that end at any index of a list.
 
 mod common;
 
-use common::{file, judge_in, line_in, refused, run_in};
+use common::{counts, file, judge_in, line_in, refused, run_in, stepped};
 use hogunlas_reference::instruction::Instruction::{self, *};
-use hogunlas_reference::{bench, Counts, Refusal};
+use hogunlas_reference::machine::{State, MAX_LIST};
+use hogunlas_reference::reader::Program;
+use hogunlas_reference::{bench, Refusal};
 
 const OPEN: [u8; 6] = [3, 0, 0, 0, 0, 0];
 const GUARDED_BY_K0: [u8; 6] = [0, 0, 0, 0, 0, 0];
@@ -309,15 +312,12 @@ fn codes_of_no_instructions() {
     assert_eq!(judge_in(8, &file), Ok(vec![1; 8]));
     assert_eq!(judge_in(7, &file), refused(16, 8));
     let list: Vec<u8> = (0..100).map(|index| index % 8).collect();
-    let counts = Counts {
-        moved: 0,
-        waiting: 0,
-        idle: 100,
-    };
+    let idle = [13, 13, 13, 13, 12, 12, 12, 12];
+    let counted = counts(&idle.map(|idle| [0, 0, idle]));
     let state = 8 * 34;
     assert_eq!(
         run_in(state, &file, &list, state),
-        Ok((counts, vec![0; state]))
+        Ok((counted, vec![0; state]))
     );
     assert_eq!(
         line_in(48, &file, 11),
@@ -375,8 +375,8 @@ fn offences_at_the_last_place_of_the_largest_file() {
 fn the_last_place_is_stepped_on_and_past() {
     let code = full_block(PLAIN);
     let file = file(0, &[], &[&code]);
-    let (counts, state) = run_in(34, &file, &[0; 1_030], 34).unwrap();
-    assert_eq!((counts.moved, counts.waiting, counts.idle), (1_024, 0, 6));
+    let (counted, state) = run_in(34, &file, &[0; 1_030], 34).unwrap();
+    assert_eq!(counted, counts(&[[1_024, 0, 6]]));
     assert_eq!(state[..2], [4, 0]);
 }
 
@@ -560,4 +560,106 @@ fn jumps_land_where_they_must() {
     assert_eq!(places(&with(0, &repeat), 3), [0, 1, 4, 4]);
     let block = [Atomic { distance: 1 }, End];
     assert_eq!(places(&block, 3), [0, 1, 2, 2]);
+}
+
+// Counts. A list's entries are counted in pieces of some hundred, and stepping ends with the first
+// entry at which every thread has been idle: so ends and lengths about these are tried.
+
+/// Threads of so many plain instructions.
+fn plain_threads(lengths: &[usize]) -> Vec<u8> {
+    let threads: Vec<Vec<Instruction>> = lengths.iter().map(|&n| vec![PLAIN; n]).collect();
+    let codes: Vec<&[Instruction]> = threads.iter().map(|code| &code[..]).collect();
+    file(0, &[], &codes)
+}
+
+/// The counts and the end state of a list are those of one step after the other.
+fn runs_as_it_steps(file: &[u8], list: &[u8]) {
+    let wanted = stepped(file, list);
+    let needed = wanted.1.len();
+    let length = list.len();
+    assert_eq!(run_in(needed, file, list, needed), Ok(wanted), "{length}");
+}
+
+#[test]
+fn a_thread_ends_at_every_index() {
+    for end in (0..=500).chain([1_023, 1_024]) {
+        let file = plain_threads(&[end]);
+        for length in [end, end + 1, 2 * end + 3] {
+            let (counted, _) = run_in(34, &file, &vec![0; length], 34).unwrap();
+            let idle = (length - end) as u64;
+            assert_eq!(counted, counts(&[[end as u64, 0, idle]]), "{end}");
+        }
+    }
+}
+
+#[test]
+fn lists_of_every_length_are_counted() {
+    let file = plain_threads(&[0, 7, 60, 200, 1, 1_024, 30, 90]);
+    let turns: Vec<u8> = (0..8).cycle().take(700).collect();
+    let bursts: Vec<u8> = (0..700).map(|index| (index / 19 % 8) as u8).collect();
+    for length in 0..=700 {
+        runs_as_it_steps(&file, &turns[..length]);
+        runs_as_it_steps(&file, &bursts[..length]);
+    }
+}
+
+/// A list of one thread is all moved, all waiting or all idle; the longest has the greatest counts.
+#[test]
+fn one_thread_is_named_again_and_again() {
+    let set = Set { to: 0, number: 1 };
+    let endless = [set, while_to(1), Again { distance: 1 }];
+    let holder = [&[TAKE], &endless[..], &[GIVE]].concat();
+    let file = file(1, &[], &[&holder, &[TAKE, GIVE], &[], &endless]);
+    let needed = 1 + 4 * 34;
+    for length in (0..=500).chain([MAX_LIST - 1]) {
+        let n = length as u64;
+        let expected = [
+            [[n + 1, 0, 0], [0; 3], [0; 3], [0; 3]],
+            [[1, 0, 0], [0, n, 0], [0; 3], [0; 3]],
+            [[1, 0, 0], [0; 3], [0, 0, n], [0; 3]],
+            [[1, 0, 0], [0; 3], [0; 3], [n, 0, 0]],
+        ];
+        for (thread, expected) in expected.iter().enumerate() {
+            let list = [vec![0], vec![thread as u8; length]].concat();
+            let (counted, _) = run_in(needed, &file, &list, needed).unwrap();
+            assert_eq!(counted, counts(expected), "{length} of thread {thread}");
+        }
+    }
+}
+
+/// Whichever thread ends last, and whether or not it or another is named afterwards.
+#[test]
+fn the_last_thread_to_end_may_be_any() {
+    for threads in 1..=8 {
+        for last in 0..threads {
+            let mut lengths = vec![3; threads];
+            lengths[last] = 40;
+            let file = plain_threads(&lengths);
+            let numbers = 0..threads as u8;
+            let turns: Vec<u8> = numbers.clone().cycle().take(500).collect();
+            runs_as_it_steps(&file, &turns);
+            for after in numbers {
+                let list = [&turns[..40 * threads], &[after; 300], &turns].concat();
+                runs_as_it_steps(&file, &list);
+            }
+        }
+    }
+}
+
+/// Run from any state on, the counts of a list's two parts add up to the whole list's.
+#[test]
+fn the_counts_of_two_parts_add_up() {
+    let file = plain_threads(&[0, 5, 40, 100]);
+    let program = Program::read(&file).unwrap();
+    let list: Vec<u8> = (0..4).cycle().take(600).collect();
+    let whole = State::start(&program).run(&program, &list);
+    for middle in 0..=list.len() {
+        let (first, second) = list.split_at(middle);
+        let mut state = State::start(&program);
+        let parts = [first, second].map(|part| state.run(&program, part));
+        for (thread, &counts) in whole.iter().enumerate() {
+            let sum = parts[0][thread] + parts[1][thread];
+            assert_eq!(sum, counts, "thread {thread}, cut at {middle}");
+        }
+    }
 }

@@ -1,5 +1,6 @@
 //! Demand 3, tried out: for an accepted program and a list after which no thread stands inside a
-//! block, there is an uninterrupted list with the same end state and the same number of moves.
+//! block, there is an uninterrupted list with the same end state and the same number of moves of
+//! each thread.
 //!
 //! The uninterrupted list is searched for, with nothing used of how the judge works: each thread
 //! keeps its own moves, cut into units (an outermost block, or one move outside blocks), and the
@@ -16,7 +17,7 @@ use std::collections::HashSet;
 use hogunlas_reference::generate::{self, Rng};
 use hogunlas_reference::instruction::Instruction::{self, *};
 use hogunlas_reference::machine::{Outcome, State, Thread};
-use hogunlas_reference::reader::Program;
+use hogunlas_reference::reader::{Program, MAX_THREADS};
 use hogunlas_reference::{judge, Refusal};
 use plain_judge::{judged_with, Rule, EVERY_READ_IS_A, ONLY_REACHED, TOO_LENIENT};
 
@@ -34,6 +35,12 @@ fn run_uninterrupted(program: &Program, list: &[u8]) -> Option<State> {
         }
     }
     Some(state)
+}
+
+/// Each thread's moved count for a list.
+fn moved_counts(program: &Program, list: &[u8]) -> [u64; MAX_THREADS] {
+    let counts = State::start(program).run(program, list);
+    counts.map(|counts| counts.moved)
 }
 
 fn someone_else_inside(program: &Program, state: &State, thread: u8) -> bool {
@@ -55,8 +62,9 @@ struct Unit {
     last: usize,
 }
 
-/// A list's moves, its end state, and each thread's units.
+/// A list, its moves, its end state, and each thread's units.
 struct Trial {
+    list: Vec<u8>,
     moves: Vec<u8>,
     end: State,
     units: Vec<Vec<Unit>>,
@@ -108,8 +116,12 @@ fn cut_into_units(program: &Program, list: &[u8]) -> Trial {
         }
         moves.push(entry);
     }
-    let end = state;
-    Trial { moves, end, units }
+    Trial {
+        list: list.to_vec(),
+        moves,
+        end: state,
+        units,
+    }
 }
 
 /// A search for an order of the units, depth first, dead ends remembered.
@@ -202,6 +214,8 @@ impl Tried {
         let list = found.unwrap_or_else(|| panic!("no uninterrupted list, seed {seed}"));
         let end = run_uninterrupted(&program, &list);
         assert_eq!(end.as_ref(), Some(&trial.end), "seed {seed}");
+        let moved = moved_counts(&program, &list);
+        assert_eq!(moved, moved_counts(&program, &trial.list), "seed {seed}");
         assert_eq!(list.len(), trial.moves.len(), "seed {seed}");
         self.lists += 1;
         self.moves += trial.moves.len();
@@ -372,8 +386,34 @@ fn a_read_of_what_another_thread_writes_does_not_move_behind_it() {
     let program = Program::read(&file).unwrap();
     let trial = cut_into_units(&program, &[0, 0, 1, 1, 1, 1, 0, 0, 0, 0]);
     assert_eq!(trial.end.threads[0].registers[2..4], [0, 1]);
-    let found = Search::find(&program, &trial);
-    assert_eq!(found, Some(vec![1, 1, 1, 1, 0, 0, 0, 0, 0, 0]));
+    let found = Search::find(&program, &trial).unwrap();
+    assert_eq!(found, [1, 1, 1, 1, 0, 0, 0, 0, 0, 0]);
+    assert_eq!(moved_counts(&program, &found), [6, 4, 0, 0, 0, 0, 0, 0]);
+}
+
+/// That each thread's moved count is the same says more than that their sum is: where two threads
+/// go round in loops, one thread's round can stand for the other's and the end is the same.
+#[test]
+fn the_sum_of_moves_does_not_give_each_threads() {
+    let rounds = [
+        set(0, 1),
+        While {
+            test: 0,
+            distance: 1,
+        },
+        Again { distance: 1 },
+    ];
+    let file = common::file(0, &[], &[&rounds, &rounds]);
+    let program = Program::read_accepted(&file).unwrap();
+    let (given, other) = ([0, 1, 0, 0, 1, 1, 0, 0], [0, 0, 0, 1, 1, 1, 1, 1]);
+    let ends = [&given, &other].map(|list| run_uninterrupted(&program, list).unwrap());
+    assert_eq!(ends[0], ends[1]);
+    assert_eq!(given.len(), other.len());
+    assert_eq!(moved_counts(&program, &given)[..2], [5, 3]);
+    assert_eq!(moved_counts(&program, &other)[..2], [3, 5]);
+    let trial = cut_into_units(&program, &given);
+    let found = Search::find(&program, &trial).unwrap();
+    assert_eq!(moved_counts(&program, &found)[..2], [5, 3]);
 }
 
 /// Two threads each add 1 to an open variable in a block: the judge refuses it (13), and rightly,

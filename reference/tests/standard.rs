@@ -5,7 +5,7 @@ mod common;
 
 use std::collections::BTreeSet;
 
-use common::{judge_in, line_in, run_in};
+use common::{judge_in, line_in, run_in, Ran};
 use hogunlas_reference::atomicity::Atomicity::{self, *};
 use hogunlas_reference::instruction::{Instruction, REGISTERS};
 use hogunlas_reference::judge::MAX_REPORT;
@@ -16,7 +16,7 @@ use hogunlas_reference::reader::*;
 use hogunlas_reference::standard::examples::{self, named_file, Answers};
 use hogunlas_reference::standard::notation::{self, bytes, instruction, number, numbers};
 use hogunlas_reference::standard::{Block, Page};
-use hogunlas_reference::{bench, state_length, Counts, Refusal};
+use hogunlas_reference::{bench, state_length, Refusal};
 
 struct Reimplementation;
 
@@ -25,7 +25,7 @@ impl Answers for Reimplementation {
         judge_in(MAX_REPORT + 3, file)
     }
 
-    fn run(&self, file: &[u8], list: &[u8]) -> Result<(Counts, Vec<u8>), Refusal> {
+    fn run(&self, file: &[u8], list: &[u8]) -> Ran {
         let length = state_length(file).unwrap_or(0);
         run_in(length + 3, file, list, length)
     }
@@ -101,7 +101,7 @@ fn every_block_is_what_the_calls_answer() {
 fn every_table_of_answers_is_what_the_calls_answer() {
     let page = Page::read();
     assert!(examples::judged_tables(&page, &Reimplementation) >= 68);
-    assert!(examples::run_table(&page, &Reimplementation) >= 9);
+    assert!(examples::run_table(&page, &Reimplementation) >= 10);
 }
 
 #[test]
@@ -543,17 +543,26 @@ fn serial_lists(block: &Block) -> [Vec<u8>; 2] {
     [numbers(given), numbers(serial)]
 }
 
+/// Each thread's moved count, as run answers it.
+fn moved_counts(file: &[u8], list: &[u8]) -> [u64; MAX_THREADS] {
+    let (counts, _) = Reimplementation.run(file, list).expect("an accepted file");
+    counts.map(|counts| counts.moved)
+}
+
 #[test]
 fn the_uninterrupted_list_is_what_demand_3_promises() {
     let page = Page::read();
     for block in page.blocks("serial") {
         let file = named_file(&page, &block.name);
         let program = Program::read_accepted(&file).expect("an accepted file");
-        let [given, serial] = serial_lists(block).map(|list| trace(&program, &list));
+        let lists = serial_lists(block);
+        let [given, serial] = lists.each_ref().map(|list| trace(&program, list));
         assert!(!given.uninterrupted && serial.uninterrupted);
         assert_eq!(inside(&program, &given.end), "nobody");
         assert_eq!(given.end, serial.end);
         assert_eq!(given.moves.len(), serial.moves.len());
+        let [answered, wanted] = lists.each_ref().map(|list| moved_counts(&file, list));
+        assert_eq!(answered, wanted, "each thread's moved count");
         for thread in 0..program.thread_count() as u8 {
             assert_eq!(given.of_thread(thread), serial.of_thread(thread));
         }
@@ -600,6 +609,14 @@ fn the_stored_example_is_the_pages() {
     assert_eq!(named_file(&Page::read(), "standard"), stored);
 }
 
+/// Whether a check of the page fails where it says something wrong instead of these words.
+fn fails_with(page: &Page, words: &str, wrong: &str, check: impl Fn(&Page)) -> bool {
+    let text = page.text.replace(words, wrong);
+    assert_ne!(text, page.text, "{words}");
+    let check = std::panic::AssertUnwindSafe(|| check(&Page::parse(text)));
+    std::panic::catch_unwind(check).is_err()
+}
+
 /// The tables of the page are read and not only passed over.
 #[test]
 fn a_wrong_page_fails() {
@@ -611,8 +628,38 @@ fn a_wrong_page_fails() {
     let table = Page::parse(wrong);
     let row = &table.table("; | B | L | R | A | T").rows[3];
     assert_ne!(row[4], letter(A.then(A)));
-    let kind = page.text.replace("```report pair", "```reports pair");
-    let failed =
-        std::panic::catch_unwind(|| examples::blocks(&Page::parse(kind), &Reimplementation));
-    assert!(failed.is_err(), "a block of an unknown kind");
+    let blocks = |page: &Page| {
+        examples::blocks(page, &Reimplementation);
+    };
+    let unknown_kind = fails_with(&page, "```report pair", "```reports pair", blocks);
+    assert!(unknown_kind, "a block of an unknown kind");
+}
+
+/// Counts are compared thread by thread, and there are some for each thread of the file.
+#[test]
+fn wrong_counts_on_the_page_fail() {
+    let page = Page::read();
+    let blocks = |page: &Page| {
+        examples::blocks(page, &Reimplementation);
+    };
+    let line = "t1: moved 7, waiting 1, idle 0\n";
+    for wrong in [
+        "t1: moved 8, waiting 0, idle 0\n",
+        "t2: moved 7, waiting 1, idle 0\n",
+        "",
+    ] {
+        assert!(fails_with(&page, line, wrong, blocks), "{wrong}");
+    }
+    let extra = format!("{line}t2: moved 0, waiting 0, idle 0\n");
+    assert!(fails_with(&page, line, &extra, blocks), "{extra}");
+    let runs = |page: &Page| {
+        examples::run_table(page, &Reimplementation);
+    };
+    let cell = "| moved 2, waiting 0, idle 0 / moved 1, waiting 1, idle 0 |";
+    for wrong in [
+        "| moved 1, waiting 1, idle 0 / moved 2, waiting 0, idle 0 |",
+        "| moved 3, waiting 1, idle 0 |",
+    ] {
+        assert!(fails_with(&page, cell, wrong, runs), "{wrong}");
+    }
 }

@@ -8,12 +8,13 @@ use std::fmt::Debug;
 use std::fs;
 use std::path::Path;
 
-use common::{hex, judge_in, line_in, run_in};
+use common::{hex, judge_in, line_in, named, run_in};
 use hogunlas_reference::{bench, state_length, Counts, Refusal};
 
 /// The folders of `vectors/`, by the standard's version.
 const VERSION_1_0: &str = "";
 const VERSION_1_1: &str = "1.1";
+const VERSION_1_2: &str = "1.2";
 
 /// Splits the lines of a vector file into fields, checks each with its line number, and compares
 /// the number of cases with the number of lines.
@@ -32,17 +33,22 @@ fn each_case(folder: &str, kind: &str, mut check: impl FnMut(&[&str], usize)) {
     assert!(cases > 0 && cases == newlines, "{cases} of {newlines}");
 }
 
-/// Every case of version 1.1 is answered as recorded; of version 1.0, every case but the named
-/// ones, which are answered otherwise. `answers` makes of a case what is answered and what is
-/// recorded.
-fn answers_its_vectors<T: Debug + PartialEq>(kind: &str, answers: impl Fn(&[&str]) -> (T, T)) {
-    each_case(VERSION_1_1, kind, |case, line| {
-        let (answered, recorded) = answers(case);
-        assert_eq!(answered, recorded, "line {line} of 1.1/{kind}.txt");
-    });
+/// Every case of versions 1.1 and 1.2 is answered as recorded; of version 1.0, every case but the
+/// named ones, which are answered otherwise. `answers` makes of a version's case what is answered
+/// and what is recorded.
+fn answers_its_vectors<T: Debug + PartialEq>(
+    kind: &str,
+    answers: impl Fn(&str, &[&str]) -> (T, T),
+) {
+    for version in [VERSION_1_1, VERSION_1_2] {
+        each_case(version, kind, |case, line| {
+            let (answered, recorded) = answers(version, case);
+            assert_eq!(answered, recorded, "line {line} of {version}/{kind}.txt");
+        });
+    }
     let mut changed = Vec::new();
     each_case(VERSION_1_0, kind, |case, line| {
-        let (answered, recorded) = answers(case);
+        let (answered, recorded) = answers(VERSION_1_0, case);
         if answered != recorded {
             let can_change = changed::reads_what_no_other_thread_writes(&hex(case[0]));
             assert!(
@@ -77,9 +83,39 @@ fn one_text(word: &'static str) -> impl Fn(&[&str]) -> Vec<u8> {
     }
 }
 
+/// The recorded counts, three at a time, and the end state.
+fn counts_and_state(fields: &[&str]) -> (Vec<Counts>, Vec<u8>) {
+    let ["counts", numbers @ .., "state", state] = fields else {
+        panic!("not an answer: {fields:?}")
+    };
+    let (triples, rest) = numbers.as_chunks::<3>();
+    assert!(rest.is_empty(), "not an answer: {fields:?}");
+    let counts = triples.iter().map(|triple| {
+        let [moved, waiting, idle] = triple.map(number);
+        Counts {
+            moved,
+            waiting,
+            idle,
+        }
+    });
+    (counts.collect(), hex(state))
+}
+
+/// What a version records of the answered counts: those of each thread of the file, where all
+/// others must be 0, or their sums.
+fn as_recorded(version: &str, file: &[u8], counts: &[Counts]) -> Vec<Counts> {
+    if version != VERSION_1_2 {
+        return vec![counts.iter().sum()];
+    }
+    let (present, absent) = counts.split_at(usize::from(file[2]));
+    let none = Counts::default();
+    assert!(absent.iter().all(|&counts| counts == none), "{counts:?}");
+    present.to_vec()
+}
+
 #[test]
 fn judge_answers_its_vectors() {
-    answers_its_vectors("judge", |case| {
+    answers_its_vectors("judge", |_, case| {
         let report = judge_in(number(case[1]) as usize, &hex(case[0]));
         (report, expected(&case[2..], one_text("report")))
     });
@@ -87,7 +123,7 @@ fn judge_answers_its_vectors() {
 
 #[test]
 fn line_answers_its_vectors() {
-    answers_its_vectors("line", |case| {
+    answers_its_vectors("line", |_, case| {
         let text = line_in(number(case[2]) as usize, &hex(case[0]), number(case[1]));
         (text, expected(&case[3..], one_text("text")))
     });
@@ -95,27 +131,41 @@ fn line_answers_its_vectors() {
 
 #[test]
 fn run_answers_its_vectors() {
-    let answer = |fields: &[&str]| match fields {
-        ["counts", moved, waiting, idle, "state", state] => (
-            Counts {
-                moved: number(moved),
-                waiting: number(waiting),
-                idle: number(idle),
-            },
-            hex(state),
-        ),
-        _ => panic!("not an answer: {fields:?}"),
-    };
-    answers_its_vectors("run", |case| {
-        let expected = expected(&case[3..], answer);
+    answers_its_vectors("run", |version, case| {
         let (file, list) = (hex(case[0]), hex(case[1]));
         let state = state_length(&file).unwrap_or(0);
-        let answered = run_in(number(case[2]) as usize, &file, &list, state);
-        (answered, expected)
+        let ran = run_in(number(case[2]) as usize, &file, &list, state);
+        let answered = ran.map(|(counts, state)| (as_recorded(version, &file, &counts), state));
+        (answered, expected(&case[3..], counts_and_state))
     });
+}
+
+/// What is recorded adds up: for each thread to how often the list names it, and for all together
+/// to the list's length.
+#[test]
+fn the_recorded_counts_add_up() {
+    for version in [VERSION_1_0, VERSION_1_1, VERSION_1_2] {
+        let mut answered = 0;
+        each_case(version, "run", |case, line| {
+            let (file, list) = (hex(case[0]), hex(case[1]));
+            let Ok((counts, _)) = expected(&case[3..], counts_and_state) else {
+                return;
+            };
+            let entries: Vec<u64> = counts.iter().map(|counts| counts.entries()).collect();
+            let sum: u64 = entries.iter().sum();
+            assert_eq!(sum, list.len() as u64, "line {line}");
+            if version == VERSION_1_2 {
+                assert_eq!(entries, named(&list)[..usize::from(file[2])], "line {line}");
+            } else {
+                assert_eq!(entries.len(), 1, "line {line}");
+            }
+            answered += 1;
+        });
+        assert!(answered >= 100, "{answered} answers of {version}");
+    }
 }
 
 #[test]
 fn bench_answers_its_vectors() {
-    answers_its_vectors("bench", |case| (bench(&hex(case[0])), hex(case[1])));
+    answers_its_vectors("bench", |_, case| (bench(&hex(case[0])), hex(case[1])));
 }

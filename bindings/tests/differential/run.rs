@@ -1,33 +1,29 @@
 //! run on generated files and lists.
 
-use hogunlas::{Counts, Refusal, MAX_FILE, MAX_LIST, MAX_STATE};
+use hogunlas::{Counts, Refusal, MAX_FILE, MAX_LIST, MAX_STATE, MAX_THREADS};
 use hogunlas_reference::generate::{self, Rng};
 use hogunlas_reference::state_length;
 
-use crate::support::{lend, Tally};
+use crate::support::{as_ours, assert_sums, lend, Tally};
 
 const ACCEPTED_FILES: u64 = 100_000;
 const FILES_OF_ANY_KIND: u64 = 20_000;
 
+/// What run answers: the counts of each thread.
+type Answer = Result<[Counts; MAX_THREADS], Refusal>;
+
 /// Compares one call, and answers what both said.
-fn compare(seed: u64, file: &[u8], list: &[u8], length: usize) -> Result<Counts, Refusal> {
+fn compare(seed: u64, file: &[u8], list: &[u8], length: usize) -> Answer {
     let wanted = lend(seed, length, |state| {
         hogunlas_reference::run(file, list, state).map(as_ours)
     });
     let ran = lend(seed, length, |state| hogunlas::run(file, list, state));
-    ran.assert_is(
-        &wanted,
-        format_args!("run, seed {seed}, {} entries into {length}", list.len()),
-    );
-    ran.answer
-}
-
-fn as_ours(counts: hogunlas_reference::Counts) -> Counts {
-    Counts {
-        moved: counts.moved,
-        waiting: counts.waiting,
-        idle: counts.idle,
+    let case = format!("run, seed {seed}, {} entries into {length}", list.len());
+    ran.assert_is(&wanted, format_args!("{case}"));
+    if let Ok(threads) = &ran.answer {
+        assert_sums(threads, file, list, format_args!("{case}"));
     }
+    ran.answer
 }
 
 /// An accepted file: mostly of some threads; some small ones full of blocks, some deep ones, and a
@@ -63,7 +59,7 @@ fn some_length(rng: &mut Rng, needed: usize) -> usize {
 #[test]
 fn run_agrees_on_accepted_files() {
     let mut tally = Tally::default();
-    let mut totals = [0; 3];
+    let mut totals = [Counts::default(); MAX_THREADS];
     for seed in 0..ACCEPTED_FILES {
         let rng = &mut Rng::new(seed);
         let file = accepted_file(rng);
@@ -71,13 +67,15 @@ fn run_agrees_on_accepted_files() {
         let needed = state_length(&file).expect("an accepted file");
         let answer = compare(seed, &file, &list, some_length(rng, needed));
         tally.add(&answer);
-        if let Ok(counts) = answer {
-            let kinds = [counts.moved, counts.waiting, counts.idle];
-            totals.iter_mut().zip(kinds).for_each(|(all, n)| *all += n);
+        if let Ok(threads) = answer {
+            for (total, counts) in totals.iter_mut().zip(threads) {
+                *total = *total + counts;
+            }
         }
     }
     tally.assert_met([0, 14, 15, 16]);
-    assert!(totals.iter().all(|&total| total > 100_000), "{totals:?}");
+    let met = |total: &Counts| total.moved.min(total.waiting).min(total.idle);
+    assert!(totals.iter().all(|total| met(total) > 10_000), "{totals:?}");
 }
 
 /// The file's and the writer's refusals come before the caller's, for every list and buffer.
@@ -102,9 +100,9 @@ fn run_agrees_at_the_limits() {
         let file = generate::largest_file(rng);
         assert_eq!(file.len(), MAX_FILE);
         let mut list = generate::longest_list(rng, 8);
-        let counts = compare(seed, &file, &list, MAX_STATE).expect("an answer");
-        let sum = counts.moved + counts.waiting + counts.idle;
-        assert_eq!(sum, MAX_LIST as u64, "seed {seed}");
+        assert_eq!(list.len(), MAX_LIST);
+        let answer = compare(seed, &file, &list, MAX_STATE);
+        assert!(answer.is_ok(), "seed {seed}");
         let short = compare(seed, &file, &list, MAX_STATE - 1);
         assert_eq!(short, refused(16, MAX_STATE));
         list[MAX_LIST - 1] = 8;
@@ -116,7 +114,7 @@ fn run_agrees_at_the_limits() {
     }
 }
 
-fn refused(number: u32, detail: usize) -> Result<Counts, Refusal> {
+fn refused(number: u32, detail: usize) -> Answer {
     Err(Refusal {
         number,
         detail: detail as u64,

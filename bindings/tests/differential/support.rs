@@ -3,7 +3,7 @@
 use std::collections::BTreeMap;
 use std::fmt::{Arguments, Debug};
 
-use hogunlas::Refusal;
+use hogunlas::{Counts, Refusal, MAX_THREADS};
 
 /// The bytes before and after a lent buffer that a call must leave alone too.
 const MARGIN: usize = 64;
@@ -83,6 +83,35 @@ impl<T: Debug + PartialEq> Outcome<T> {
             "{answer:?}, but byte {index} of the buffer is {byte} and not {right}"
         ))
     }
+}
+
+/// The reimplementation's counts, as the library's.
+pub fn as_ours(threads: [hogunlas_reference::Counts; MAX_THREADS]) -> [Counts; MAX_THREADS] {
+    threads.map(|counts| Counts {
+        moved: counts.moved,
+        waiting: counts.waiting,
+        idle: counts.idle,
+    })
+}
+
+/// How many entries are counted.
+fn entries(counts: Counts) -> usize {
+    (counts.moved + counts.waiting + counts.idle) as usize
+}
+
+/// Fails unless the counts of a run sum as the standard says: each thread's to how often the list
+/// names it, and all together to the list's length. A thread that the file does not have counts 0.
+pub fn assert_sums(threads: &[Counts; MAX_THREADS], file: &[u8], list: &[u8], case: Arguments) {
+    for (number, &counts) in threads.iter().enumerate() {
+        let named = list.iter().filter(|&&entry| usize::from(entry) == number);
+        assert_eq!(entries(counts), named.count(), "{case}: thread {number}");
+    }
+    let absent = &threads[usize::from(file[2])..];
+    assert!(
+        absent.iter().all(|&counts| counts == Counts::default()),
+        "{case}"
+    );
+    assert_eq!(entries(threads.iter().sum()), list.len(), "{case}");
 }
 
 /// How often each refusal number was met; 0 stands for answers.

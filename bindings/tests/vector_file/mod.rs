@@ -9,12 +9,28 @@ use hogunlas::Refusal;
 #[path = "../../../reference/tests/common/changed.rs"]
 mod changed;
 
-/// The folders of `reference/vectors/`, by the standard's version.
-const VERSION_1_0: &str = "";
-const VERSION_1_1: &str = "1.1";
+/// The version of the standard that vectors were answered by.
+#[derive(Clone, Copy, Debug, PartialEq, Eq, PartialOrd, Ord)]
+pub enum Version {
+    V1_0,
+    V1_1,
+    V1_2,
+}
+
+impl Version {
+    /// Its folder of `reference/vectors/`.
+    fn folder(self) -> &'static str {
+        match self {
+            Version::V1_0 => "",
+            Version::V1_1 => "1.1",
+            Version::V1_2 => "1.2",
+        }
+    }
+}
 
 /// One line of a vector file, split into fields.
 pub struct Case<'t> {
+    pub version: Version,
     pub fields: Vec<&'t str>,
     pub line: usize,
 }
@@ -63,13 +79,15 @@ pub fn bytes(field: &str) -> Vec<u8> {
 }
 
 /// Checks each line of a vector file, and that there are as many as newlines.
-fn each_case(folder: &str, kind: &str, mut check: impl FnMut(&Case)) {
+fn each_case(version: Version, kind: &str, mut check: impl FnMut(&Case)) {
     let vectors = Path::new(env!("CARGO_MANIFEST_DIR")).join("../reference/vectors");
-    let path = vectors.join(folder).join(kind).with_extension("txt");
+    let folder = vectors.join(version.folder());
+    let path = folder.join(kind).with_extension("txt");
     let text = fs::read_to_string(path).expect("a file of vectors");
     let mut cases = 0;
     for (index, line) in text.lines().enumerate() {
         check(&Case {
+            version,
             fields: line.split(' ').collect(),
             line: index + 1,
         });
@@ -79,15 +97,17 @@ fn each_case(folder: &str, kind: &str, mut check: impl FnMut(&Case)) {
     assert_eq!(cases, text.matches('\n').count());
 }
 
-/// Every case of version 1.1 is answered as recorded; of version 1.0, every case but the named
-/// ones, which are answered otherwise. `difference` says what is not as a case records it.
+/// Every case of versions 1.1 and 1.2 is answered as recorded; of version 1.0, every case but the
+/// named ones, which are answered otherwise. `difference` says what is not as a case records it.
 pub fn answers_its_vectors(kind: &str, difference: impl Fn(&Case) -> Option<String>) {
-    each_case(VERSION_1_1, kind, |case| {
-        let at = format!("line {} of 1.1/{kind}.txt", case.line);
-        assert_eq!(difference(case), None, "{at}");
-    });
+    for version in [Version::V1_1, Version::V1_2] {
+        each_case(version, kind, |case| {
+            let at = format!("line {} of {}/{kind}.txt", case.line, version.folder());
+            assert_eq!(difference(case), None, "{at}");
+        });
+    }
     let mut changed = Vec::new();
-    each_case(VERSION_1_0, kind, |case| {
+    each_case(Version::V1_0, kind, |case| {
         if let Some(difference) = difference(case) {
             let can_change = changed::reads_what_no_other_thread_writes(&case.bytes(1));
             assert!(can_change, "line {} of {kind}.txt: {difference}", case.line);

@@ -3,6 +3,7 @@
 --     Opening       what is known of an accepted file
 --     JudgeCall     what judge answers where its code returns
 --     Running       ... of run
+--     Counted       what the counts of run sum to
 --     Printing      ... of line
 --     Numbers       a refusal as C gets it
 --     Prefix        bench prints the same for the first 33,174 bytes as for the whole file
@@ -12,6 +13,7 @@ pub mod Definitions
 pub mod Opening
 pub mod JudgeCall
 pub mod Running
+pub mod Counted
 pub mod Printing
 pub mod Numbers
 pub mod Prefix

@@ -52,11 +52,11 @@ unfolding Entries
 entries-searched threads list h =
     none-bad (λ i. ltb (getD list i 0) threads) (length list) 0 (λ i k. let at : 0 + i ≡ i = omega arith in rw at (lt-ltb (getD list i 0) threads (h i k)))
 
-pub every-entry : (l : Layout) (list : List ℕ) → firstBad (λ i. ltb (getD list i 0) (l .threads)) 1 (length list) 0 ≡ Nowhere → Entries (l .threads) list
+pub every-entry : (threads : ℕ) (list : List ℕ) → firstBad (λ i. ltb (getD list i 0) threads) 1 (length list) 0 ≡ Nowhere → Entries threads list
 unfolding Entries
-every-entry l list e i h =
+every-entry threads list e i h =
     let at : 0 + 1 * i ≡ i = omega arith in
-    ltb-true (getD list i 0) (l .threads) (rw at at (firstBad-nowhere (λ k. ltb (getD list k 0) (l .threads)) 1 (length list) 0 e i h))
+    ltb-true (getD list i 0) threads (rw at at (firstBad-nowhere (λ k. ltb (getD list k 0) threads) 1 (length list) 0 e i h))
 
 module _ (s list buffer : List ℕ) where
   -- the file is refused

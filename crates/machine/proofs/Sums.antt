@@ -9,6 +9,7 @@
 --                     "A thread's three counts sum to how often the list names it"
 --     run-sum         "all together sum to the list's length"
 --     run-absent      "those of a thread that the file does not have are 0"
+--     run-adds-up     all three
 use Prim.Native.Nat.{ℕ, zero, suc, _+_, _≤_, _<_}
 use mathlib.Core.Path.{_≡_, refl, sym, ap, _∙_}
 use mathlib.Core.List.{List, [], _∷_}
@@ -23,7 +24,7 @@ use Rattle.program.specs.Choice.{choose}
 use Rattle.program.specs.Layout.{Program}
 use Rattle.program.specs.Limits.{threadLimit}
 use Rattle.machine.specs.Step.{outcome}
-use Rattle.machine.specs.Run.{Entries, Run, uncounted, countsOf, counted, countedFor, runFrom, run, total, totals, timesNamed}
+use Rattle.machine.specs.Run.{Entries, Run, uncounted, countsOf, counted, countedFor, runFrom, run, total, totals, timesNamed, AddsUp}
 use Rattle.machine.specs.declared.counts.Counts.{Counts}
 use Rattle.machine.specs.declared.thread.Outcome.{Outcome}
 use Rattle.machine.specs.declared.thread.Outcome.the-variants.{Moved, Waiting, Idle}
@@ -107,3 +108,15 @@ module _ (p : Program) where
   pub run-absent : (ts : List ℕ) (n : ℕ) → Entries n ts → (t : ℕ) → n ≤ t → countsOf (run p ts .counts) t ≡ uncounted
   unfolding run countsOf
   run-absent ts n h t k = from-absent _ ts n h t k ∙ getD-replicate-same threadLimit t uncounted
+
+-- all three, of a program that has at most eight threads
+entries-wider : (m n : ℕ) (ts : List ℕ) → m ≤ n → Entries m ts → Entries n ts
+unfolding Entries
+entries-wider m n ts h e i k = omega (arith, e i k)
+
+pub run-adds-up : (p : Program) (ts : List ℕ) → p .threads ≤ threadLimit → Entries (p .threads) ts → AddsUp p ts (run p ts .counts)
+run-adds-up p ts h e = record {
+  each = run-named p ts;
+  together = run-sum p ts (entries-wider (p .threads) threadLimit ts h e);
+  absent = run-absent p ts (p .threads) e;
+}

@@ -1,6 +1,7 @@
 -- A list of thread numbers, run from the start, and its counts (the standard, "The step machine": "Run returns the counts moved,
 -- waiting and idle of each of eight threads").
-use Prim.Native.Nat.{ℕ, _+_, _<_}
+use Prim.Native.Nat.{ℕ, _+_, _≤_, _<_}
+use mathlib.Core.Path.{_≡_}
 use mathlib.Core.List.{List, [], _∷_}
 use lib.Dec.{eqb}
 use lib.ListN.{length, getD, set, replicate}
@@ -66,3 +67,9 @@ allMoved (c ∷ cs) = c .moved + allMoved cs
 unfoldable pub timesNamed : ℕ → List ℕ → ℕ
 timesNamed t [] = 0
 timesNamed t (u ∷ us) = choose (eqb u t) 1 0 + timesNamed t us
+
+-- of the counts of a list that is run by a program
+pub record AddsUp (p : Program) (list : List ℕ) (cs : List Counts) : Type 0 where
+  pub each : (t : ℕ) → t < threadLimit → total (countsOf cs t) ≡ timesNamed t list
+  pub together : totals cs ≡ length list
+  pub absent : (t : ℕ) → p .threads ≤ t → countsOf cs t ≡ uncounted

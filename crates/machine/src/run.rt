@@ -136,42 +136,51 @@ fn step(
 {
     let at = t as usize;
     let place = places[at];
-    if place == counts[at] {
+    // A thread is never past its end. The compiler takes an equality for the likelier case, and would make the moves slower.
+    if counts[at] <= place {
         return Outcome::Idle;
     }
     let i = instruction_at(rows, s, starts[at] + INSTRUCTION_SIZE * place);
     move_by(i, t, variables, locks, places, registers)
 }
 
-// Whether each of so many threads is at its end.
-fn all_ended(threads: usize, counts: &[usize; CODE_LIMIT], places: &[usize; THREAD_LIMIT]) -> bool
-    requires { ⌜ threads ≤ threadLimit ⌝ }
-    ensures { λ r. ⌜ (r ≡ true → Ended threads (now (counts .entry)) (now (places .entry))) ⌝ }
+// Whether each of eight threads is at its end, as one is that the file does not have. No loop: of two loops, one within the other, the
+// compiler takes the inner one for the busier, and makes the moves slower.
+fn all_ended(counts: &[usize; CODE_LIMIT], places: &[usize; THREAD_LIMIT]) -> bool
+    ensures { λ r. ⌜ (r ≡ true → Ended (now (counts .entry)) (now (places .entry))) ⌝ }
 {
-    let mut t: usize = 0;
-    while t < threads {
-        if places[t] != counts[t] {
-            return false;
-        }
-        t += 1;
+    if places[0] != counts[0] {
+        return false;
     }
-    true
+    if places[1] != counts[1] {
+        return false;
+    }
+    if places[2] != counts[2] {
+        return false;
+    }
+    if places[3] != counts[3] {
+        return false;
+    }
+    if places[4] != counts[4] {
+        return false;
+    }
+    if places[5] != counts[5] {
+        return false;
+    }
+    if places[6] != counts[6] {
+        return false;
+    }
+    places[7] == counts[7]
 }
 
 // Whether what is left of a list is known to be idle. Looked at seldom, so that an idle entry costs little.
-fn rest_is_idle(
-    idle: usize,
-    threads: usize,
-    counts: &[usize; CODE_LIMIT],
-    places: &[usize; THREAD_LIMIT],
-) -> bool
-    requires { ⌜ threads ≤ threadLimit ⌝ }
-    ensures { λ r. ⌜ (r ≡ true → Ended threads (now (counts .entry)) (now (places .entry))) ⌝ }
+fn rest_is_idle(idle: usize, counts: &[usize; CODE_LIMIT], places: &[usize; THREAD_LIMIT]) -> bool
+    ensures { λ r. ⌜ (r ≡ true → Ended (now (counts .entry)) (now (places .entry))) ⌝ }
 {
     if idle % IDLE_ENTRIES != 0 {
         return false;
     }
-    all_ended(threads, counts, places)
+    all_ended(counts, places)
 }
 
 // The entries of a list, one after the other, until every thread is found to be at its end: then the rest is idle, and need only be
@@ -220,7 +229,7 @@ fn entries(
             Outcome::Waiting => waiting[at] += 1,
             Outcome::Idle => {
                 idle += 1;
-                if rest_is_idle(idle, l.threads, counts, places) {
+                if rest_is_idle(idle, counts, places) {
                     stop = i;
                 }
             }

@@ -1,4 +1,4 @@
-// The state's bytes (the standard, "The step machine": "It writes the end state").
+// The state's bytes (the standard, "The step machine": "Run writes the end state").
 use crate::thread::Thread;
 use program::layout::Layout;
 use program::limits::REGISTER_COUNT;

@@ -128,24 +128,38 @@ fn last_instruction(word: [u8; 4]) -> Vec<u8> {
 /// Eight threads that never end. In each round a thread adds to v0 in a block and then calculates
 /// for a while, so that most steps move and some wait.
 pub fn busy_threads() -> Vec<u8> {
+    file(&vec![busy_thread(); THREADS])
+}
+
+fn busy_thread() -> Vec<Instruction> {
     endless(&[&add_to_v0()[..], &calculate().repeat(12)].concat())
 }
 
 /// Eight threads that do nothing but add to v0 under its lock, so that most steps wait.
 pub fn contending_threads() -> Vec<u8> {
-    endless(&add_to_v0())
+    file(&vec![endless(&add_to_v0()); THREADS])
 }
 
 /// Eight threads that end after their first step.
 pub fn ended_threads() -> Vec<u8> {
-    file(&vec![vec![Set { to: 0, number: 1 }]; THREADS])
+    file(&vec![one_step(); THREADS])
 }
 
-fn endless(body: &[Instruction]) -> Vec<u8> {
+/// Eight threads, of which the first ends after its first step and the others never end.
+pub fn first_thread_ended() -> Vec<u8> {
+    let mut threads = vec![busy_thread(); THREADS];
+    threads[0] = one_step();
+    file(&threads)
+}
+
+fn one_step() -> Vec<Instruction> {
+    vec![Set { to: 0, number: 1 }]
+}
+
+fn endless(body: &[Instruction]) -> Vec<Instruction> {
     let distance = body.len() as u16 + 1;
     let start = [Set { to: 1, number: 1 }, While { test: 1, distance }];
-    let thread = [&start[..], body, &[Again { distance }]].concat();
-    file(&vec![thread; THREADS])
+    [&start[..], body, &[Again { distance }]].concat()
 }
 
 fn add_to_v0() -> [Instruction; 7] {
@@ -189,4 +203,9 @@ pub fn round_robin() -> Vec<u8> {
 pub fn random_list() -> Vec<u8> {
     let mut rng = Rng::new(1);
     (0..MAX_LIST).map(|_| rng.below(THREADS) as u8).collect()
+}
+
+/// The longest list, the first thread at each step.
+pub fn first_thread_only() -> Vec<u8> {
+    vec![0; MAX_LIST]
 }

@@ -2,7 +2,7 @@
 
 use std::hint::black_box;
 
-use hogunlas::{Refusal, LINE_BUFFER, MAX_LIST, MAX_REPORT, MAX_STATE};
+use hogunlas::{Counts, Refusal, LINE_BUFFER, MAX_LIST, MAX_REPORT, MAX_STATE};
 
 use crate::files;
 use crate::programs;
@@ -92,20 +92,32 @@ fn refused_row(what: &str, file: Vec<u8>, number: u32, before_end: usize) {
     judge(&[file], TURNS, 1).print(&what, Unit::Microseconds, 1);
 }
 
-/// The counts moved, waiting and idle, which both sides must answer.
-fn counts(file: &[u8], list: &[u8]) -> [u64; 3] {
+fn counts(counts: hogunlas_reference::Counts) -> Counts {
+    Counts {
+        moved: counts.moved,
+        waiting: counts.waiting,
+        idle: counts.idle,
+    }
+}
+
+/// Both sides must answer the same counts of each thread, and write the same state. Answers the
+/// counts of all threads together.
+fn assert_ran(file: &[u8], list: &[u8]) -> Counts {
     let (mut state, mut other) = ([9; MAX_STATE], [9; MAX_STATE]);
     let ran = hogunlas::run(file, list, &mut state).expect("an accepted file");
-    let counts = [ran.moved, ran.waiting, ran.idle];
-    let ran = hogunlas_reference::run(file, list, &mut other).expect("an accepted file");
-    assert_eq!([ran.moved, ran.waiting, ran.idle], counts);
+    let wanted = hogunlas_reference::run(file, list, &mut other).expect("an accepted file");
+    assert_eq!(ran, wanted.map(counts));
     assert_eq!(state, other);
-    counts
+    ran.iter().sum()
 }
 
 /// run through a list of the greatest length; a row shows the time of one entry.
 fn run_row(what: &str, file: &[u8], list: &[u8]) {
-    let [moved, waiting, idle] = counts(file, list);
+    let Counts {
+        moved,
+        waiting,
+        idle,
+    } = assert_ran(file, list);
     let (mut state, mut other) = ([0; MAX_STATE], [0; MAX_STATE]);
     let times = Times::measure(
         TURNS / 2,
@@ -132,6 +144,11 @@ pub fn run_rows() {
     run_row("random list", &files::busy_threads(), &random);
     run_row("all at one lock", &files::contending_threads(), &turns);
     run_row("threads at their end", &files::ended_threads(), &turns);
+    run_row(
+        "one thread at its end, the others not",
+        &files::first_thread_ended(),
+        &files::first_thread_only(),
+    );
 }
 
 /// line judges the file anew; the last line is the dearest to find.

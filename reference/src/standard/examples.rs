@@ -1,7 +1,9 @@
 //! The page's examples and its tables of answers, compared with what an implementation answers.
 //! Each function fails at the first difference and says how many comparisons it made.
 
-use super::notation::{answer, bytes, counts, dump, file, number, numbers, refusal};
+use super::notation::{
+    answer, bytes, counts_line, dump, file, listed_counts, number, numbers, refusal,
+};
 use super::{Block, Page, Table};
 use crate::instruction::REGISTERS;
 use crate::reader::{MAX_LOCKS, MAX_THREADS};
@@ -11,8 +13,8 @@ use crate::{Counts, Refusal};
 pub trait Answers {
     /// The report.
     fn judge(&self, file: &[u8]) -> Result<Vec<u8>, Refusal>;
-    /// The counts and the end state.
-    fn run(&self, file: &[u8], list: &[u8]) -> Result<(Counts, Vec<u8>), Refusal>;
+    /// Each thread's counts, and the end state.
+    fn run(&self, file: &[u8], list: &[u8]) -> Result<([Counts; MAX_THREADS], Vec<u8>), Refusal>;
     /// The line with its newline.
     fn line(&self, file: &[u8], i: u64) -> Result<Vec<u8>, Refusal>;
 }
@@ -57,10 +59,25 @@ pub fn printouts(page: &Page) -> Vec<(Vec<u8>, String)> {
 }
 
 fn check_run(block: &Block, file: &[u8], calls: &impl Answers) {
-    let (counted, state) = block.lines.split_first().expect("counts");
-    let wanted = (counts(counted), dump(state));
+    let (counted, state) = block.lines.split_at(thread_count(file));
+    let lines = counted.iter().enumerate();
+    let stated: Vec<Counts> = lines.map(|(t, line)| counts_line(t, line)).collect();
+    let wanted = (of_all_threads(file, &stated), dump(state));
     let answer = calls.run(file, &numbers(&block.argument));
     assert_eq!(answer, Ok(wanted), "run {}", block.name);
+}
+
+/// The number of threads that a sound file has.
+fn thread_count(file: &[u8]) -> usize {
+    usize::from(file[2])
+}
+
+/// The counts of eight threads: of each that the file has as stated, of the others 0.
+fn of_all_threads(file: &[u8], stated: &[Counts]) -> [Counts; MAX_THREADS] {
+    assert_eq!(stated.len(), thread_count(file), "counts {stated:?}");
+    let mut all = [Counts::default(); MAX_THREADS];
+    all[..stated.len()].copy_from_slice(stated);
+    all
 }
 
 fn check_printout(block: &Block, file: &[u8], calls: &impl Answers) {
@@ -146,7 +163,8 @@ pub fn run_table(page: &Page, calls: &impl Answers) -> usize {
         let file = file(&row[2], &row[3], &row[4]);
         let answer = calls.run(&file, &numbers(&row[5]));
         let (counted, state) = answer.unwrap_or_else(|refusal| panic!("{refusal:?}: {row:?}"));
-        assert_eq!(counted, counts(&row[6]), "{row:?}");
+        let wanted = of_all_threads(&file, &listed_counts(&row[6]));
+        assert_eq!(counted, wanted, "{row:?}");
         for claim in row[7].split(", ") {
             let (what, value) = claim.split_once(" is ").expect(claim);
             assert_eq!(in_state(&file, &state, what), number(value), "{row:?}");
@@ -335,8 +353,8 @@ fn check_access(
 pub fn line_forms(page: &Page, file: &[u8], printout: &str) -> Vec<usize> {
     let report = crate::report_length(file).expect("an accepted file");
     let variables = usize::from(u16::from_be_bytes([file[3], file[4]])) / 6;
-    let threads = usize::from(file[2]);
-    assert_eq!(printout.lines().count(), 4 + variables + report + threads);
+    let lines = 4 + variables + report + thread_count(file);
+    assert_eq!(printout.lines().count(), lines);
     printout.lines().map(|line| form_of(page, line)).collect()
 }
 

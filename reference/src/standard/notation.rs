@@ -156,8 +156,19 @@ pub fn refusal(text: &str) -> Refusal {
     }
 }
 
+/// `t1: moved 7, waiting 1, idle 0`, the line of this thread.
+pub fn counts_line(thread: usize, line: &str) -> Counts {
+    let named = line.strip_prefix(&format!("t{thread}: "));
+    counts(named.unwrap_or_else(|| panic!("no counts of t{thread}: {line}")))
+}
+
+/// The counts of a file's threads: `moved 2, waiting 0, idle 0 / moved 1, waiting 1, idle 0`.
+pub fn listed_counts(text: &str) -> Vec<Counts> {
+    text.split(" / ").map(counts).collect()
+}
+
 /// `moved 3, waiting 1, idle 0`.
-pub fn counts(text: &str) -> Counts {
+fn counts(text: &str) -> Counts {
     let count = |name: &str, part: &str| {
         let digits = part
             .strip_prefix(name)

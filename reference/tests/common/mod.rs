@@ -3,6 +3,8 @@
 
 use hogunlas_reference::generate::encode_file;
 use hogunlas_reference::instruction::Instruction;
+use hogunlas_reference::machine::{Outcome, State};
+use hogunlas_reference::reader::{Program, MAX_THREADS};
 use hogunlas_reference::{judge, line, run, Counts, Refusal};
 
 /// A buffer filled with a pattern that depends on the position, so that a shifted, kept or
@@ -40,14 +42,58 @@ pub fn line_in(length: usize, file: &[u8], i: u64) -> Result<Vec<u8>, Refusal> {
     call(length, |out| line(file, i, out), |&used| used).map(|(_, text)| text)
 }
 
+/// What `run` answers and writes.
+pub type Ran = Result<([Counts; MAX_THREADS], Vec<u8>), Refusal>;
+
 /// `state` is the state's length, which `run` doesn't answer.
-pub fn run_in(
-    length: usize,
-    file: &[u8],
-    list: &[u8],
-    state: usize,
-) -> Result<(Counts, Vec<u8>), Refusal> {
+pub fn run_in(length: usize, file: &[u8], list: &[u8], state: usize) -> Ran {
     call(length, |out| run(file, list, out), |_| state)
+}
+
+/// The counts of eight threads: moved, waiting and idle of the first ones, and 0 of the others.
+pub fn counts(first: &[[u64; 3]]) -> [Counts; MAX_THREADS] {
+    let mut all = [Counts::default(); MAX_THREADS];
+    for (counts, &[moved, waiting, idle]) in all.iter_mut().zip(first) {
+        *counts = Counts {
+            moved,
+            waiting,
+            idle,
+        };
+    }
+    all
+}
+
+/// The counts and the end state of an accepted file, by one step after the other: each entry is
+/// counted for the thread that it names.
+pub fn stepped(file: &[u8], list: &[u8]) -> ([Counts; MAX_THREADS], Vec<u8>) {
+    let program = Program::read_accepted(file).expect("an accepted file");
+    let mut state = State::start(&program);
+    let mut counts = [Counts::default(); MAX_THREADS];
+    for &entry in list {
+        let counts = &mut counts[usize::from(entry)];
+        match state.step(&program, entry) {
+            Outcome::Moved => counts.moved += 1,
+            Outcome::Waiting => counts.waiting += 1,
+            Outcome::Idle => counts.idle += 1,
+        }
+    }
+    (counts, written(&program, &state))
+}
+
+/// The bytes of a state.
+pub fn written(program: &Program, state: &State) -> Vec<u8> {
+    let mut bytes = vec![0; State::length(program)];
+    state.write(program, &mut bytes);
+    bytes
+}
+
+/// How often a list names each of eight threads.
+pub fn named(list: &[u8]) -> [u64; MAX_THREADS] {
+    let mut named = [0; MAX_THREADS];
+    for &entry in list {
+        named[usize::from(entry)] += 1;
+    }
+    named
 }
 
 pub fn refused<T>(number: u32, detail: u64) -> Result<T, Refusal> {

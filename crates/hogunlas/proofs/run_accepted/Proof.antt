@@ -54,7 +54,7 @@ returns-2 c =
 
 -- `let threads = run_list(rows, file, l, starts, counts, list, out)`
 run-list-requires : tie.Need-run-list-requires
-run-list-requires c κs = (c .before .before .before .before .before .before .before .before .before .before .before .before .before .pre .0, c .before .before .before .before .before .before .before .before .before .before .before .before .before .pre .2, every-entry (c .before .before .before .before .before .before .before .before .before .before .before .before .before .args .l) (c .before .before .before .before .before .before .before .before .before .before .before .before .before .args .list .now) (sym (c .before .before .before .before .before .before .before .first-bad-thread .ensures) ∙ c .before .before .before .before .before .enum-told .given .1), c .before .before .before .before .before .before .before .before .if1 .left, c .before .if2 .left)
+run-list-requires c κs = (c .before .before .before .before .before .before .before .before .before .before .before .before .before .pre .0, c .before .before .before .before .before .before .before .before .before .before .before .before .before .pre .2, every-entry (c .before .before .before .before .before .before .before .before .before .before .before .before .before .args .l .threads) (c .before .before .before .before .before .before .before .before .before .before .before .before .before .args .list .now) (sym (c .before .before .before .before .before .before .before .first-bad-thread .ensures) ∙ c .before .before .before .before .before .enum-told .given .1), c .before .before .before .before .before .before .before .before .if1 .left, c .before .if2 .left)
 
 returns-3 : tie.Need-returns-3
 returns-3 c =

@@ -63,6 +63,6 @@ pub record Kept (l : Layout) (counts vs ks : List ℕ) (ths : List Thread) : Typ
   pub places : (t : ℕ) → t < l .threads → getD ths t nobody .place ≤ getD counts t 0
   pub registers : EightRegisters ths
 
--- each of so many threads is at its code's end, by the places of all and how many instructions each code has
-unfoldable pub Ended : (threads : ℕ) (counts places : List ℕ) → Type 0
-Ended threads counts places = (t : ℕ) → t < threads → getD places t 0 ≡ getD counts t 0
+-- each of eight threads is at its code's end, by the places of all and how many instructions each code has
+unfoldable pub Ended : (counts places : List ℕ) → Type 0
+Ended counts places = (t : ℕ) → t < threadLimit → getD places t 0 ≡ getD counts t 0

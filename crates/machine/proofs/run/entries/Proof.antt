@@ -23,7 +23,7 @@ Inv-loop rows s l starts counts list variables₀ locks₀ places₀ registers�
     (i ≤ stop)
     × (stop ≤ length list)
     × (idle ≤ i)
-    × (stop < length list → (i ≡ stop) × (0 < idle) × Ended (l .threads) counts places)
+    × (stop < length list → (i ≡ stop) × (0 < idle) × Ended counts places)
     × Between s l counts list variables₀ locks₀ (threadsIn places₀ registers₀) variables locks (threadsIn places registers) moved waiting idle i
 
 abbrev μ-loop : tie.MeasureT-loop
@@ -84,11 +84,11 @@ module _ (c : tie.After-step Inv-loop μ-loop) where
 loop-holds : tie.Need-loop-holds Inv-loop μ-loop
 loop-holds c = (omega arith, omega arith, omega arith, λ h. absurd (let z : ⊥ = omega arith in z), between-start _ _ (c .before .before .before .pre .4))
 
--- src/run.rt:204:17
+-- `let t = list[i]`
 shared-slice-read-t : tie.Need-shared-slice-read-t Inv-loop μ-loop
 shared-slice-read-t c = search needs
 
--- src/run.rt:205:18
+-- `let at = t as usize`
 cast-at : tie.Need-cast-at Inv-loop μ-loop
 cast-at c =
     let b = c .before .before .before .before .before .before in
@@ -96,11 +96,11 @@ cast-at c =
     let h : o .i < length (b .args .list .now) = omega (arith, c .before .loop-test .taken, o .inv .1) in
     omega (arith, entry-small (b .args .list .now) (b .args .l .threads) (o .i) (b .pre .2) h (b .pre .1 .sound .threads))
 
--- src/run.rt:206:9
+-- `i += 1`
 add-i : tie.Need-add-i Inv-loop μ-loop
 add-i c = search needs
 
--- src/run.rt:207:15
+-- `match step(`
 step-requires : tie.Need-step-requires Inv-loop μ-loop
 unfolding Entries
 step-requires c κs =
@@ -109,83 +109,69 @@ step-requires c κs =
     let h : o .i < length (b .args .list .now) = omega (arith, c .before .before .before .before .before .loop-test .taken, o .inv .1) in
     (b .pre .0, b .pre .1, b .pre .2 (o .i) h, o .inv .4 .kept)
 
--- src/run.rt:219:31
+-- `Outcome::Moved => moved[at] += 1`
 enum-told : tie.Need-enum-told Inv-loop μ-loop
 enum-told c = search needs
 
--- src/run.rt:219:31
 mul-moved : tie.Need-mul-moved Inv-loop μ-loop
 mul-moved c = omega (arith, small (c .before .before))
 
--- src/run.rt:219:31
 array-read-moved : tie.Need-array-read-moved Inv-loop μ-loop
 array-read-moved c = small (c .before .before)
 
--- src/run.rt:219:31
 add-moved : tie.Need-add-moved Inv-loop μ-loop
 add-moved c = let s = c .before .before in omega (arith, few-moved s, before-end s, start s .pre .3)
 
--- src/run.rt:219:31
 array-write-moved : tie.Need-array-write-moved Inv-loop μ-loop
 array-write-moved c = small (c .before .before)
 
--- src/run.rt:203:5
 loop-less : tie.Need-loop-less Inv-loop μ-loop
 loop-less c = omega (arith, before-stop (c .before .before))
 
--- src/run.rt:203:5
 loop-again : tie.Need-loop-again Inv-loop μ-loop
 loop-again c =
     let s = c .before .before in
     (omega (arith, before-stop s), omega (arith, before-stop s), omega (arith, s .before .before .before .before .before .before .before .loop .inv .2), going s, past s (c .enum-told .given .1))
 
--- src/run.rt:220:33
+-- `Outcome::Waiting => waiting[at] += 1`
 enum-told-2 : tie.Need-enum-told-2 Inv-loop μ-loop
 enum-told-2 c = search needs
 
--- src/run.rt:220:33
 mul-waiting : tie.Need-mul-waiting Inv-loop μ-loop
 mul-waiting c = omega (arith, small (c .before .before))
 
--- src/run.rt:220:33
 array-read-waiting : tie.Need-array-read-waiting Inv-loop μ-loop
 array-read-waiting c = small (c .before .before)
 
--- src/run.rt:220:33
 add-waiting : tie.Need-add-waiting Inv-loop μ-loop
 add-waiting c = let s = c .before .before in omega (arith, few-waiting s, before-end s, start s .pre .3)
 
--- src/run.rt:220:33
 array-write-waiting : tie.Need-array-write-waiting Inv-loop μ-loop
 array-write-waiting c = small (c .before .before)
 
--- src/run.rt:203:5
 loop-less-2 : tie.Need-loop-less-2 Inv-loop μ-loop
 loop-less-2 c = omega (arith, before-stop (c .before .before))
 
--- src/run.rt:203:5
 loop-again-2 : tie.Need-loop-again-2 Inv-loop μ-loop
 loop-again-2 c =
     let s = c .before .before in
     (omega (arith, before-stop s), omega (arith, before-stop s), omega (arith, s .before .before .before .before .before .before .before .loop .inv .2), going s, past s (c .enum-told2 .given .1))
 
--- src/run.rt:222:17
+-- `idle += 1`
 enum-told-3 : tie.Need-enum-told-3 Inv-loop μ-loop
 enum-told-3 c = search needs
 
--- src/run.rt:222:17
 add-idle : tie.Need-add-idle Inv-loop μ-loop
 add-idle c = let s = c .before .before in omega (arith, s .before .before .before .before .before .before .before .loop .inv .2, before-end s, start s .pre .3)
 
--- src/run.rt:223:20
+-- `if rest_is_idle(idle, counts, places) {`
 rest-is-idle-requires : tie.Need-rest-is-idle-requires Inv-loop μ-loop
-rest-is-idle-requires c κs = start (c .before .before .before) .pre .1 .sound .threads
+rest-is-idle-requires c κs = search needs
 
--- src/run.rt:203:5
+-- `stop = i`
 loop-less-3 : tie.Need-loop-less-3 Inv-loop μ-loop
 loop-less-3 c = omega (arith, before-stop (c .before .before .before .before .before))
 
--- src/run.rt:203:5
 loop-again-3 : tie.Need-loop-again-3 Inv-loop μ-loop
 loop-again-3 c =
     let s = c .before .before .before .before .before in (
@@ -196,11 +182,10 @@ loop-again-3 c =
       past s (c .before .before .before .enum-told3 .given .1),
     )
 
--- src/run.rt:203:5
+-- the loop goes on
 loop-less-4 : tie.Need-loop-less-4 Inv-loop μ-loop
 loop-less-4 c = omega (arith, before-stop (c .before .before .before .before .before))
 
--- src/run.rt:203:5
 loop-again-4 : tie.Need-loop-again-4 Inv-loop μ-loop
 loop-again-4 c =
     let s = c .before .before .before .before .before in (
@@ -230,14 +215,13 @@ module _ (c : tie.After-loop Inv-loop μ-loop) where
         stopped .1,
         λ t k.
             let there = threads-at (o .places) (o .registers) t (omega (arith, kept .threads, begun .pre .1 .sound .threads)) in
-            step-idle (begun .pre .1) kept t k (ap (λ (th : Thread). th .place) there ∙ stopped .2 t k),
+            step-idle (begun .pre .1) kept t k (ap (λ (th : Thread). th .place) there ∙ stopped .2 t (omega (arith, begun .pre .1 .sound .threads))),
       ))
 
 -- `counts_of(list, &moved, &waiting, idle)`
 counts-of-requires : tie.Need-counts-of-requires Inv-loop μ-loop
 counts-of-requires c κs = whole-tally (whole (c .before .before))
 
--- src/run.rt:179:1
 returns : tie.Need-returns Inv-loop μ-loop
 returns c =
     let l = c .before .before .before in

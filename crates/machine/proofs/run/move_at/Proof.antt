@@ -62,80 +62,67 @@ module _ (c : tie.After-moved-thread) where
   unfolding stored
   keeping e = (c .moved-thread .result, c .moved-thread .ensures, threads-place ps rs t (c .moved-thread .result) (moved-registers e))
 
--- src/run.rt:58:16
+-- `place: places[at]`
 mul-t11 : tie.Need-mul-t11
 mul-t11 c = search needs
 
--- src/run.rt:58:16
 element-copy-out-t14 : tie.Need-element-copy-out-t14
 element-copy-out-t14 c = search needs
 
--- src/run.rt:59:20
+-- `registers: registers[at]`
 mul-t15 : tie.Need-mul-t15
 mul-t15 c = search needs
 
--- src/run.rt:59:20
 element-copy-out-t18 : tie.Need-element-copy-out-t18
 element-copy-out-t18 c = search needs
 
--- src/run.rt:61:9
+-- `let moved = moved_thread(th, m, value)`
 moved-thread-requires : tie.Need-moved-thread-requires
 moved-thread-requires c κs = search needs
 
--- src/run.rt:62:5
+-- `places[at] = moved.place`
 mul-places : tie.Need-mul-places
 mul-places c = search needs
 
--- src/run.rt:62:5
 element-write-places : tie.Need-element-write-places
 element-write-places c = search needs
 
--- src/run.rt:64:20
+-- `Move::Sets(a, x) => registers[at][a as usize] = x`
 enum-known-m : tie.Need-enum-known-m
 enum-known-m c = search needs
 
--- src/run.rt:64:43
 cast-registers : tie.Need-cast-registers
 cast-registers c = search needs
 
--- src/run.rt:64:29
 mul-registers : tie.Need-mul-registers
 mul-registers c = search needs
 
--- src/run.rt:64:29
 mul-registers-2 : tie.Need-mul-registers-2
 mul-registers-2 c = search needs
 
--- src/run.rt:64:29
 index-1-registers : tie.Need-index-1-registers
 index-1-registers c = search needs
 
--- src/run.rt:64:29
 index-2-registers : tie.Need-index-2-registers
 unfolding Does
 index-2-registers c = let s = c .before .before .before in does s (c .before .m .given .1) .1
 
--- src/run.rt:65:21
+-- `Move::Reads(a, _) => registers[at][a as usize] = value`
 enum-known-m-2 : tie.Need-enum-known-m-2
 enum-known-m-2 c = search needs
 
--- src/run.rt:65:44
 cast-registers-2 : tie.Need-cast-registers-2
 cast-registers-2 c = search needs
 
--- src/run.rt:65:30
 mul-registers-3 : tie.Need-mul-registers-3
 mul-registers-3 c = search needs
 
--- src/run.rt:65:30
 mul-registers-4 : tie.Need-mul-registers-4
 mul-registers-4 c = search needs
 
--- src/run.rt:65:30
 index-1-registers-2 : tie.Need-index-1-registers-2
 index-1-registers-2 c = search needs
 
--- src/run.rt:65:30
 index-2-registers-2 : tie.Need-index-2-registers-2
 unfolding Does
 index-2-registers-2 c = let s = c .before .before .before in does s (c .before .m2 .given .1) .1
@@ -155,37 +142,30 @@ enum-told-4 c = search needs
 enum-told-5 : tie.Need-enum-told-5
 enum-told-5 c = search needs
 
--- src/run.rt:45:1
 returns : tie.Need-returns
 unfolding Does
 returns c = let s = c .before .before .before in storing s (does s (c .before .m .given .1) .0)
 
--- src/run.rt:45:1
 returns-2 : tie.Need-returns-2
 unfolding Does
 returns-2 c = let s = c .before .before .before in storing s (does s (c .before .m2 .given .1) .0)
 
--- src/run.rt:45:1
 returns-3 : tie.Need-returns-3
 unfolding Does
 returns-3 c = let s = c .before .before in keeping s (does s (c .enum-told .given .1) .1)
 
--- src/run.rt:45:1
 returns-4 : tie.Need-returns-4
 unfolding Does
 returns-4 c = let s = c .before .before in keeping s (does s (c .enum-told2 .given .1) .0)
 
--- src/run.rt:45:1
 returns-5 : tie.Need-returns-5
 unfolding Does
 returns-5 c = let s = c .before .before in keeping s (does s (c .enum-told3 .given .1) .0)
 
--- src/run.rt:45:1
 returns-6 : tie.Need-returns-6
 unfolding Does
 returns-6 c = let s = c .before .before in keeping s (does s (c .enum-told4 .given .1))
 
--- src/run.rt:45:1
 returns-7 : tie.Need-returns-7
 unfolding Does
 returns-7 c = let s = c .before .before in keeping s (does s (c .enum-told5 .given .1))
