@@ -9,7 +9,7 @@ use Rattle.machine.proofs.run.rest_is_idle.Tie as tie
 returns : tie.Need-returns
 returns c e = absurd (true≢false (sym e))
 
--- `all_ended(threads, counts, places)`
+-- `all_ended(counts, places)`
 all-ended-requires : tie.Need-all-ended-requires
 all-ended-requires c κs = search needs
 
