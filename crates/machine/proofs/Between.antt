@@ -1,37 +1,45 @@
--- The loop over the entries of a list: running the entries that are left from what the arrays hold is running the whole list.
+-- The loops over the entries of a list, a part at a time: running the entries that are left from what the arrays hold is running the whole.
 -- Assumes nothing.
---     movedAfter, waitingAfter, idleAfter   what is counted, after an entry
---     Between         what holds at the loop's head, before an entry
---     between-start   ... before the first
---     between-next    ... after an entry
---     Whole           what is known of the whole list's run
---     between-end     ... after the last, or if every thread is at its end
---     whole-tally     the numbers that are kept are those of the whole list
---     whole-counts    its counts are those of the numbers
-use Prim.Native.Nat.{ℕ, suc, _+_, _-_, _≤_, _<_}
+--     movedAfter, waitingAfter   what is counted, after an entry
+--     InPart         what holds before an entry of a part
+--     part-start, part-next, part-end
+--                    ... before the first, after an entry, after the last
+--     Between        what holds before a part of a list
+--     between-start, between-next
+--                    ... before the first, after a part
+--     Whole          what is known of the whole list's run
+--     between-end    ... after the last part, or if every thread is at its end
+--     whole-tally    the numbers that are kept are those of the whole list
+--     whole-counts   its counts are those of the numbers
+use Prim.Native.Nat.{ℕ, _+_, _-_, _≤_, _<_}
 use mathlib.Core.Path.{_≡_, refl, sym, ap, _∙_, subst}
-use mathlib.Core.List.{List, [], _∷_}
+use mathlib.Core.Bool.{false}
+use mathlib.Core.List.{List, [], _∷_, _++_}
+use mathlib.Core.Logic.{dite}
 use native.Mathlib.Decide.{ℕ-discrete, decLt}
 use native.Mathlib.Numerals.{add-one}
 use native.Mathlib.Omega.{arith}
+use borrow.Author.Tests.{eqb-false}
 use lib.Dec.{eqb}
-use lib.ListN.{length, getD, set, drop, replicate, length-set, length-drop, drop-of-length-le}
-use lib.Seq.{drop-cons, ext-getD, getD-drop, getD-set-same, getD-set-other, set-getD}
+use lib.ListN.{length, getD, set, take, drop, replicate, length-set, length-drop, drop-of-length-le, take-append-drop}
+use lib.Seq.{drop-cons, drop-drop, ext-getD, getD-drop, getD-set-same, getD-set-other, set-getD}
 use Rattle.program.proofs.Lists.{getD-set-holds, getD-replicate-same}
 use Rattle.program.specs.Layout.{Program, programOf}
 use Rattle.program.specs.Limits.{threadLimit}
+use Rattle.program.specs.Internal.Sections.{SectionTable}
 use Rattle.program.specs.declared.layout.Layout.{Layout}
 use Rattle.machine.specs.State.{State}
 use Rattle.machine.specs.Step.{outcome, step}
-use Rattle.machine.specs.Run.{Entries, Run, uncounted, countsOf, counted, countedFor, runFrom, total, timesNamed}
-use Rattle.machine.specs.Internal.Kept.{stateIn, fromHere, Kept}
-use Rattle.machine.specs.Internal.Tally.{tallied, Tally}
+use Rattle.machine.specs.Run.{Entries, Run, uncounted, countsOf, countedFor, runFrom, total, timesNamed}
+use Rattle.machine.specs.Internal.Kept.{stateIn, fromHere, nobody, Kept}
+use Rattle.machine.specs.Internal.Tally.{Agree, Numbers, RunTo, AtMost, tallied, Tally}
 use Rattle.machine.specs.declared.counts.Counts.{Counts}
 use Rattle.machine.specs.declared.thread.Outcome.{Outcome}
 use Rattle.machine.specs.declared.thread.Outcome.the-variants.{Moved, Waiting, Idle}
 use Rattle.machine.specs.declared.thread.Thread.{Thread}
-use Rattle.machine.proofs.Names.{one-at-most}
-use Rattle.machine.proofs.Sums.{entries-head, entries-tail, length-counted, counted-named, length-counts, from-named}
+use Rattle.machine.proofs.Ends.{AtEnd, never-idle}
+use Rattle.machine.proofs.Kept.{not-at-end, step-idle}
+use Rattle.machine.proofs.Sums.{entries-head, entries-tail, length-counted, length-counts, from-named, from-absent}
 
 -- What is counted
 
@@ -48,15 +56,6 @@ abbrev pub waitingAfter : Outcome → ℕ → List ℕ → List ℕ
 waitingAfter Moved t ns = ns
 waitingAfter Waiting t ns = oneMore t ns
 waitingAfter Idle t ns = ns
-
-abbrev pub idleAfter : Outcome → ℕ → ℕ
-idleAfter Moved n = n
-idleAfter Waiting n = n
-idleAfter Idle n = n + 1
-
--- one kind of the counts is kept in an array
-abbrev Agree : (Counts → ℕ) → List Counts → List ℕ → Type 0
-Agree f cs ns = (u : ℕ) → u < threadLimit → f (countsOf cs u) ≡ getD ns u 0
 
 module _ (f : Counts → ℕ) (cs : List Counts) (ns : List ℕ) (t : ℕ) (h : t < length cs) (k : t < length ns) (agree : Agree f cs ns) where
   agree-set : (c : Counts) (n : ℕ) → f c ≡ n → Agree f (set cs t c) (set ns t n)
@@ -82,21 +81,6 @@ module _ (cs : List Counts) (ns : List ℕ) (t : ℕ) (h : t < length cs) (k : t
   waiting-agree Waiting a = agree-set (λ (c : Counts). c .waiting) cs ns t h k a _ _ (ap (λ (n : ℕ). n + 1) (a t l))
   waiting-agree Idle a = agree-kept (λ (c : Counts). c .waiting) cs ns t h k a _ l refl
 
--- no thread was idle yet
-abbrev NoneIdle : List Counts → ℕ → Type 0
-NoneIdle cs idle = idle ≡ 0 → (u : ℕ) → countsOf cs u .idle ≡ 0
-
-none-idle-kept : (cs : List Counts) (t : ℕ) (c : Counts) → c .idle ≡ countsOf cs t .idle → ((u : ℕ) → countsOf cs u .idle ≡ 0)
-    → (u : ℕ) → countsOf (set cs t c) u .idle ≡ 0
-unfolding countsOf
-none-idle-kept cs t c e h u = getD-set-holds (λ _ (d : Counts). d .idle ≡ 0) cs t c uncounted (e ∙ h t) u (h u)
-
-none-idle : (o : Outcome) (cs : List Counts) (t idle : ℕ) → NoneIdle cs idle → NoneIdle (countedFor t o cs) (idleAfter o idle)
-unfolding countedFor
-none-idle Moved cs t idle h e = none-idle-kept cs t _ refl (h e)
-none-idle Waiting cs t idle h e = none-idle-kept cs t _ refl (h e)
-none-idle Idle cs t idle h e = absurd (let z : ⊥ = omega arith in z)
-
 -- an entry's arrays are as long as before
 length-moved-after : (o : Outcome) (t : ℕ) (ns : List ℕ) → length (movedAfter o t ns) ≡ length ns
 length-moved-after Moved t ns = length-set ns t _
@@ -108,60 +92,130 @@ length-waiting-after Moved t ns = refl
 length-waiting-after Waiting t ns = length-set ns t _
 length-waiting-after Idle t ns = refl
 
--- The loop
+-- both numbers of each thread grow by at most one
+grows : (ns : List ℕ) (t u : ℕ) → getD (oneMore t ns) u 0 ≤ getD ns u 0 + 1
+grows ns t u = getD-set-holds (λ v (n : ℕ). n ≤ getD ns v 0 + 1) ns t (getD ns t 0 + 1) 0 (omega arith) u (omega arith)
 
--- before entry i
-pub record Between (s : List ℕ) (l : Layout) (counts list vs₀ ks₀ : List ℕ) (ths₀ : List Thread) (vs ks : List ℕ) (ths : List Thread)
-    (moved waiting : List ℕ) (idle i : ℕ)
+at-most-next : (o : Outcome) (t n : ℕ) (moved waiting : List ℕ) → AtMost n moved waiting → AtMost (n + 1) (movedAfter o t moved) (waitingAfter o t waiting)
+unfolding AtMost
+at-most-next Moved t n moved waiting h u k = (omega (arith, grows moved t u, h u k .0), omega (arith, h u k .1))
+at-most-next Waiting t n moved waiting h u k = (omega (arith, h u k .0), omega (arith, grows waiting t u, h u k .1))
+at-most-next Idle t n moved waiting h u k = (omega (arith, h u k .0), omega (arith, h u k .1))
+
+numbers-next : (o : Outcome) (t : ℕ) (cs : List Counts) (moved waiting : List ℕ) → t < threadLimit → Numbers cs moved waiting
+    → Numbers (countedFor t o cs) (movedAfter o t moved) (waitingAfter o t waiting)
+numbers-next o t cs moved waiting k x = record {
+  threads = length-counted t o cs ∙ x .threads;
+  moved-long = length-moved-after o t moved ∙ x .moved-long;
+  waiting-long = length-waiting-after o t waiting ∙ x .waiting-long;
+  moved-are = moved-agree cs moved t (omega (arith, x .threads, k)) (omega (arith, x .moved-long, k)) k o (x .moved-are);
+  waiting-are = waiting-agree cs waiting t (omega (arith, x .threads, k)) (omega (arith, x .waiting-long, k)) k o (x .waiting-are);
+}
+
+-- A part of a list
+
+-- before entry i of a part that began in a state, with these numbers: whatever was counted, it is counted on
+pub record InPart (s : List ℕ) (l : Layout) (counts list : List ℕ) (from : State) (moved₀ waiting₀ : List ℕ) (before : ℕ) (vs ks : List ℕ) (ths : List Thread)
+    (moved waiting : List ℕ) (i : ℕ)
     : Type 0 where
   pub kept : Kept l counts vs ks ths
+  pub at-most : AtMost (before + i) moved waiting
+  pub counting : (cs : List Counts) → Numbers cs moved₀ waiting₀
+      → (now : List Counts) × Numbers now moved waiting
+      × (runFrom (programOf s l) (record { counts = cs; state = from }) list
+      ≡ runFrom (programOf s l) (record { counts = now; state = stateIn l vs ks ths }) (drop i list))
+
+pub part-start : (s : List ℕ) {l : Layout} {counts : List ℕ} (list : List ℕ) {vs ks : List ℕ} {ths : List Thread} (before : ℕ) (moved waiting : List ℕ)
+    → Kept l counts vs ks ths → AtMost before moved waiting
+    → InPart s l counts list (stateIn l vs ks ths) moved waiting before vs ks ths moved waiting 0
+part-start s list before moved waiting kept most = record {
+  kept = kept;
+  at-most = let e : before + 0 ≡ before = omega arith in rw e most;
+  counting = λ cs x. (cs, x, refl);
+}
+
+module _ {s : List ℕ} {l : Layout} {counts list : List ℕ} {from : State} {moved₀ waiting₀ : List ℕ} {before : ℕ} {vs ks : List ℕ} {ths : List Thread} {moved waiting : List ℕ} {i : ℕ}
+    (x : InPart s l counts list from moved₀ waiting₀ before vs ks ths moved waiting i) where
+  pub part-next : {o : Outcome} {vs′ ks′ : List ℕ} {ths′ : List Thread} → i < length list → getD list i 0 < threadLimit
+      → o ≡ outcome (programOf s l) (getD list i 0) (stateIn l vs ks ths)
+      → stateIn l vs′ ks′ ths′ ≡ step (programOf s l) (getD list i 0) (stateIn l vs ks ths)
+      → Kept l counts vs′ ks′ ths′
+      → InPart s l counts list from moved₀ waiting₀ before vs′ ks′ ths′ (movedAfter o (getD list i 0) moved) (waitingAfter o (getD list i 0) waiting) (i + 1)
+  unfolding runFrom
+  part-next {o} h k e f kept = let t = getD list i 0 in record {
+    kept = kept;
+    at-most = let a : before + (i + 1) ≡ before + i + 1 = omega arith in rw a (at-most-next o t (before + i) moved waiting (x .at-most));
+    counting = λ cs n. let y = x .counting cs n in (countedFor t o (y .0), numbers-next o t (y .0) moved waiting k (y .1), y .2 ∙ rw (drop-cons list i 0 h, add-one, e, f));
+  }
+
+  pub part-end : length list ≤ i → (cs : List Counts) → Numbers cs moved₀ waiting₀
+      → RunTo (runFrom (programOf s l) (record { counts = cs; state = from }) list) (stateIn l vs ks ths) moved waiting
+  unfolding runFrom
+  part-end h cs n =
+      let y = x .counting cs n in
+      let e : runFrom (programOf s l) (record { counts = cs; state = from }) list ≡ record { counts = y .0; state = stateIn l vs ks ths } = y .2 ∙ rw (drop-of-length-le list {i = i} h) in
+      (ap (λ (r : Run). r .state) e, subst (λ (r : Run). Numbers (r .counts) moved waiting) (sym e) (y .1))
+
+-- The parts
+
+-- two lists, one after the other
+run-append : (p : Program) (r : Run) (xs ys : List ℕ) → runFrom p r (xs ++ ys) ≡ runFrom p (runFrom p r xs) ys
+unfolding runFrom
+run-append p r [] ys = refl
+run-append p r (x ∷ xs) ys = run-append p _ xs ys
+
+-- before the part at index i
+pub record Between (s : List ℕ) (l : Layout) (counts list vs₀ ks₀ : List ℕ) (ths₀ : List Thread) (vs ks : List ℕ) (ths : List Thread)
+    (moved waiting : List ℕ) (i : ℕ)
+    : Type 0 where
+  pub kept : Kept l counts vs ks ths
+  pub at-most : AtMost i moved waiting
   pub so-far : List Counts
-  pub threads : length so-far ≡ threadLimit
-  pub moved-long : length moved ≡ threadLimit
-  pub waiting-long : length waiting ≡ threadLimit
-  pub moved-are : Agree (λ (c : Counts). c .moved) so-far moved
-  pub waiting-are : Agree (λ (c : Counts). c .waiting) so-far waiting
-  pub idle-are : NoneIdle so-far idle
-  pub at-most : (t : ℕ) → t < threadLimit → total (countsOf so-far t) ≤ i
+  pub numbers : Numbers so-far moved waiting
   pub runs : runFrom (programOf s l) (fromHere l vs₀ ks₀ ths₀) list
       ≡ runFrom (programOf s l) (record { counts = so-far; state = stateIn l vs ks ths }) (drop i list)
 
 pub between-start : (s : List ℕ) {l : Layout} {counts : List ℕ} (list : List ℕ) {vs ks : List ℕ} {ths : List Thread} → Kept l counts vs ks ths
-    → Between s l counts list vs ks ths vs ks ths (replicate threadLimit 0) (replicate threadLimit 0) 0 0
-unfolding countsOf total
+    → Between s l counts list vs ks ths vs ks ths (replicate threadLimit 0) (replicate threadLimit 0) 0
+unfolding countsOf AtMost
 between-start s list kept = record {
   kept = kept;
+  at-most = λ u h. rw (getD-replicate-same {A = ℕ} threadLimit u 0) (omega arith, omega arith);
   so-far = replicate threadLimit uncounted;
-  threads = refl;
-  moved-long = refl;
-  waiting-long = refl;
-  moved-are = λ u h. rw (getD-replicate-same threadLimit u uncounted, getD-replicate-same {A = ℕ} threadLimit u 0);
-  waiting-are = λ u h. rw (getD-replicate-same threadLimit u uncounted, getD-replicate-same {A = ℕ} threadLimit u 0);
-  idle-are = λ e u. rw (getD-replicate-same threadLimit u uncounted);
-  at-most = λ u h. rw (getD-replicate-same threadLimit u uncounted) (omega arith);
+  numbers = record {
+    threads = refl;
+    moved-long = refl;
+    waiting-long = refl;
+    moved-are = λ u h. rw (getD-replicate-same threadLimit u uncounted, getD-replicate-same {A = ℕ} threadLimit u 0);
+    waiting-are = λ u h. rw (getD-replicate-same threadLimit u uncounted, getD-replicate-same {A = ℕ} threadLimit u 0);
+  };
   runs = refl;
 }
 
-module _ {s : List ℕ} {l : Layout} {counts list vs₀ ks₀ : List ℕ} {ths₀ : List Thread} {vs ks : List ℕ} {ths : List Thread} {moved waiting : List ℕ} {idle i : ℕ}
-    (x : Between s l counts list vs₀ ks₀ ths₀ vs ks ths moved waiting idle i) where
-  pub between-next : {o : Outcome} {vs′ ks′ : List ℕ} {ths′ : List Thread} → i < length list → getD list i 0 < threadLimit
-      → o ≡ outcome (programOf s l) (getD list i 0) (stateIn l vs ks ths)
-      → stateIn l vs′ ks′ ths′ ≡ step (programOf s l) (getD list i 0) (stateIn l vs ks ths)
-      → Kept l counts vs′ ks′ ths′
-      → Between s l counts list vs₀ ks₀ ths₀ vs′ ks′ ths′ (movedAfter o (getD list i 0) moved) (waitingAfter o (getD list i 0) waiting) (idleAfter o idle) (i + 1)
-  unfolding runFrom
-  between-next {o} h k e f kept = let t = getD list i 0 in record {
-    kept = kept;
-    so-far = countedFor t o (x .so-far);
-    threads = length-counted t o (x .so-far) ∙ x .threads;
-    moved-long = length-moved-after o t moved ∙ x .moved-long;
-    waiting-long = length-waiting-after o t waiting ∙ x .waiting-long;
-    moved-are = moved-agree (x .so-far) moved t (omega (arith, x .threads, k)) (omega (arith, x .moved-long, k)) k o (x .moved-are);
-    waiting-are = waiting-agree (x .so-far) waiting t (omega (arith, x .threads, k)) (omega (arith, x .waiting-long, k)) k o (x .waiting-are);
-    idle-are = none-idle o (x .so-far) t idle (x .idle-are);
-    at-most = λ u m. omega (arith, counted-named t o (x .so-far) u (omega (arith, x .threads, m)), x .at-most u m, one-at-most (eqb t u));
-    runs = x .runs ∙ rw (drop-cons list i 0 h, add-one, e, f);
-  }
+module _ {s : List ℕ} {l : Layout} {counts list vs₀ ks₀ : List ℕ} {ths₀ : List Thread} {vs ks : List ℕ} {ths : List Thread} {moved waiting : List ℕ} {i : ℕ}
+    (x : Between s l counts list vs₀ ks₀ ths₀ vs ks ths moved waiting i) where
+  -- so many entries are run
+  pub between-next : (n : ℕ) {vs′ ks′ : List ℕ} {ths′ : List Thread} {moved′ waiting′ : List ℕ}
+      → ((cs : List Counts) → Numbers cs moved waiting
+      → RunTo (runFrom (programOf s l) (record { counts = cs; state = stateIn l vs ks ths }) (take n (drop i list))) (stateIn l vs′ ks′ ths′) moved′ waiting′)
+      → AtMost (i + n) moved′ waiting′ → Kept l counts vs′ ks′ ths′
+      → Between s l counts list vs₀ ks₀ ths₀ vs′ ks′ ths′ moved′ waiting′ (i + n)
+  between-next n {vs′} {ks′} {ths′} part most kept =
+      let p = programOf s l in
+      let r = runFrom p (record { counts = x .so-far; state = stateIn l vs ks ths }) (take n (drop i list)) in
+      let to = part (x .so-far) (x .numbers) in
+      record {
+        kept = kept;
+        at-most = most;
+        so-far = r .counts;
+        numbers = to .1;
+        runs =
+            x .runs
+            ∙ ap (runFrom p (record { counts = x .so-far; state = stateIn l vs ks ths })) (sym (take-append-drop n (drop i list)))
+            ∙ run-append p _ (take n (drop i list)) (drop n (drop i list))
+            ∙ ap (runFrom p r) (drop-drop n i list)
+            ∙ ap (λ (here : State). runFrom p (record { counts = r .counts; state = here }) (drop (i + n) list)) (to .0);
+      }
 
 -- The end
 
@@ -194,22 +248,22 @@ module _ (p : Program) (s : State) (still : (t : ℕ) → t < p .threads → (Id
       ∙ ap {B = Run} (λ (s′ : State). record { counts = countedFor t (outcome p t s) cs; state = s′ }) (e .1) in
       subst (λ (r : Run). Quiet s cs (runFrom p r ts)) next (q .0, λ u. q .1 u ∙ one .0 u, λ u. q .2 u ∙ one .1 u)
 
--- the whole list's run: the state at its end, how often each thread moved and waited, and that all of its entries are counted
-pub record Whole (l : Layout) (list : List ℕ) (vs ks : List ℕ) (ths : List Thread) (moved waiting : List ℕ) (idle : ℕ) (r : Run) : Type 0 where
+-- the whole list's run: the state at its end, how often each thread moved and waited, that all of its entries are counted, and that one
+-- that is not at its end was never idle
+pub record Whole (l : Layout) (counts list : List ℕ) (vs ks : List ℕ) (ths : List Thread) (moved waiting : List ℕ) (r : Run) : Type 0 where
   pub state : r .state ≡ stateIn l vs ks ths
-  pub threads : length (r .counts) ≡ threadLimit
-  pub moved-are : Agree (λ (c : Counts). c .moved) (r .counts) moved
-  pub waiting-are : Agree (λ (c : Counts). c .waiting) (r .counts) waiting
-  pub idle-are : NoneIdle (r .counts) idle
+  pub numbers : Numbers (r .counts) moved waiting
   pub names : (t : ℕ) → t < threadLimit → total (countsOf (r .counts) t) ≡ timesNamed t list
+  pub active : (t : ℕ) → t < threadLimit → (getD ths t nobody .place ≡ getD counts t 0 → ⊥) → countsOf (r .counts) t .idle ≡ 0
 
 -- what is left of a list of entries
 entries-drop : (n : ℕ) (list : List ℕ) (i : ℕ) → Entries n list → Entries n (drop i list)
 unfolding Entries
 entries-drop n list i e j h = rw (getD-drop i list j 0) (e (i + j) (omega (arith, length-drop i list)))
 
-module _ {s : List ℕ} {l : Layout} {counts list vs₀ ks₀ : List ℕ} {ths₀ : List Thread} {vs ks : List ℕ} {ths : List Thread} {moved waiting : List ℕ} {idle i : ℕ}
-    (x : Between s l counts list vs₀ ks₀ ths₀ vs ks ths moved waiting idle i) where
+module _ {s : List ℕ} {l : Layout} {starts counts list vs₀ ks₀ : List ℕ} {ths₀ : List Thread} {vs ks : List ℕ} {ths : List Thread} {moved waiting : List ℕ} {i : ℕ}
+    (table : SectionTable s l starts counts) (entries : Entries (l .threads) list)
+    (x : Between s l counts list vs₀ ks₀ ths₀ vs ks ths moved waiting i) where
   abbrev p : Program
   p = programOf s l
 
@@ -219,40 +273,48 @@ module _ {s : List ℕ} {l : Layout} {counts list vs₀ ks₀ : List ℕ} {ths�
   abbrev whole : Run
   whole = runFrom p (fromHere l vs₀ ks₀ ths₀) list
 
+  none-counted : (t : ℕ) → countsOf (replicate threadLimit uncounted) t ≡ uncounted
+  unfolding countsOf
+  none-counted t = getD-replicate-same threadLimit t uncounted
+
   -- of each thread all of its entries are counted
   all-named : (t : ℕ) → t < threadLimit → total (countsOf (whole .counts) t) ≡ timesNamed t list
-  unfolding countsOf total
-  all-named t h = from-named p (fromHere l vs₀ ks₀ ths₀) list t h ∙ rw (getD-replicate-same threadLimit t uncounted) (omega arith)
+  unfolding total
+  all-named t h = from-named p (fromHere l vs₀ ks₀ ths₀) list t h ∙ rw (none-counted t) (omega arith)
+
+  -- a thread that is not at its end was never idle, and one that is not there neither
+  not-ended : whole .state ≡ here → (t : ℕ) → (getD ths t nobody .place ≡ getD counts t 0 → ⊥) → countsOf (whole .counts) t .idle ≡ 0
+  not-ended e t n = dite (decLt t (l .threads))
+      (λ (h : t < l .threads).
+      never-idle p (fromHere l vs₀ ks₀ ths₀) list t (λ z. not-at-end table (x .kept) t h n (subst (λ (s : State). AtEnd p s t) e z))
+      ∙ ap (λ (c : Counts). c .idle) (none-counted t))
+      (λ (k : ¬ (t < l .threads)).
+      ap (λ (c : Counts). c .idle) (from-absent p (fromHere l vs₀ ks₀ ths₀) list (l .threads) entries t (omega (arith, k)) ∙ none-counted t))
+
+  ends : whole .state ≡ here → Numbers (whole .counts) moved waiting → Whole l counts list vs ks ths moved waiting whole
+  ends e numbers = record { state = e; numbers = numbers; names = all-named; active = λ t _. not-ended e t }
 
   -- where every thread is at its end
-  ends-quiet : 0 < idle → Quiet here (x .so-far) whole → Whole l list vs ks ths moved waiting idle whole
-  ends-quiet k q = record {
-    state = q .0;
+  quiet-numbers : Quiet here (x .so-far) whole → Numbers (whole .counts) moved waiting
+  quiet-numbers q = record {
     threads = length-counts p (fromHere l vs₀ ks₀ ths₀) list;
-    moved-are = λ u h. q .1 u ∙ x .moved-are u h;
-    waiting-are = λ u h. q .2 u ∙ x .waiting-are u h;
-    idle-are = λ e. absurd (let z : ⊥ = omega arith in z);
-    names = all-named;
+    moved-long = x .numbers .moved-long;
+    waiting-long = x .numbers .waiting-long;
+    moved-are = λ u h. q .1 u ∙ x .numbers .moved-are u h;
+    waiting-are = λ u h. q .2 u ∙ x .numbers .waiting-are u h;
   }
 
-  -- where no entry is left
-  ends-last : whole ≡ record { counts = x .so-far; state = here } → Whole l list vs ks ths moved waiting idle whole
-  ends-last e = record {
-    state = ap (λ (r : Run). r .state) e;
-    threads = length-counts p (fromHere l vs₀ ks₀ ths₀) list;
-    moved-are = λ u h. ap (λ (r : Run). countsOf (r .counts) u .moved) e ∙ x .moved-are u h;
-    waiting-are = λ u h. ap (λ (r : Run). countsOf (r .counts) u .waiting) e ∙ x .waiting-are u h;
-    idle-are = λ z u. ap (λ (r : Run). countsOf (r .counts) u .idle) e ∙ x .idle-are z u;
-    names = all-named;
-  }
-
-  pub between-end : Entries (l .threads) list
-      → (i < length list → (0 < idle) × ((t : ℕ) → t < l .threads → (Idle ≡ outcome p t here) × (here ≡ step p t here)))
-      → Whole l list vs ks ths moved waiting idle whole
+  pub between-end : (i < length list → (t : ℕ) → t < l .threads → getD ths t nobody .place ≡ getD counts t 0)
+      → Whole l counts list vs ks ths moved waiting whole
   unfolding runFrom programOf
-  between-end entries ended = elim (decLt i (length list)) [
-    | yes h ↦ ends-quiet (ended h .0) (subst (Quiet here (x .so-far)) (sym (x .runs)) (quiet p here (ended h .1) (x .so-far) (drop i list) (entries-drop (l .threads) list i entries)))
-    | no h ↦ ends-last (x .runs ∙ rw (drop-of-length-le list {i = i} (omega (arith, h))))
+  between-end ended = elim (decLt i (length list)) [
+    | yes h ↦
+        let still : (t : ℕ) → t < l .threads → (Idle ≡ outcome p t here) × (here ≡ step p t here) = λ t k. step-idle table (x .kept) t k (ended h t k) in
+        let q = subst (Quiet here (x .so-far)) (sym (x .runs)) (quiet p here still (x .so-far) (drop i list) (entries-drop (l .threads) list i entries)) in
+        ends (q .0) (quiet-numbers q)
+    | no h ↦
+        let e : whole ≡ record { counts = x .so-far; state = here } = x .runs ∙ rw (drop-of-length-le list {i = i} (omega (arith, h))) in
+        ends (ap (λ (r : Run). r .state) e) (subst (λ (r : Run). Numbers (r .counts) moved waiting) (sym e) (x .numbers))
   ]
 
 -- a thread's counts by two of them and their sum
@@ -262,19 +324,23 @@ counts-are c e f g =
     let d : c .idle ≡ total c - (c .moved + c .waiting) = omega arith in
     rw (← e, ← f, ← g) (ap (λ (n : ℕ). record { moved = c .moved; waiting = c .waiting; idle = n }) d)
 
-module _ {l : Layout} {list vs ks : List ℕ} {ths : List Thread} {moved waiting : List ℕ} {idle : ℕ} {r : Run} (x : Whole l list vs ks ths moved waiting idle r) where
-  pub whole-tally : Tally list moved waiting idle
+module _ {l : Layout} {counts list vs ks : List ℕ} {ths : List Thread} {moved waiting : List ℕ} {r : Run} (x : Whole l counts list vs ks ths moved waiting r) where
+  pub whole-tally : (places : List ℕ) → ((t : ℕ) → t < threadLimit → getD ths t nobody .place ≡ getD places t 0) → Tally list counts places moved waiting
   unfolding Tally total
-  whole-tally t h = (
-    omega (arith, x .names t h, x .moved-are t h, x .waiting-are t h),
-    λ e. omega (arith, x .names t h, x .moved-are t h, x .waiting-are t h, x .idle-are e t),
-  )
+  whole-tally places there t h =
+      let n = x .numbers in (
+        omega (arith, x .names t h, n .moved-are t h, n .waiting-are t h),
+        λ e.
+            let idle = x .active t h (λ z. eqb-false (getD places t 0) (getD counts t 0) e (sym (there t h) ∙ z)) in
+            omega (arith, x .names t h, n .moved-are t h, n .waiting-are t h, idle),
+      )
 
   pub whole-counts : (cs : List Counts) → length cs ≡ threadLimit
       → ((t : ℕ) → t < threadLimit → countsOf cs t ≡ tallied list t (getD moved t 0) (getD waiting t 0))
       → r ≡ record { counts = cs; state = stateIn l vs ks ths }
   unfolding countsOf
   whole-counts cs e h =
-      let same : r .counts ≡ cs = ext-getD uncounted (r .counts) cs (x .threads ∙ sym e) (λ t k. let k′ : t < threadLimit = omega (arith, x .threads) in
-      counts-are (countsOf (r .counts) t) (x .moved-are t k′) (x .waiting-are t k′) (x .names t k′) ∙ sym (h t k′)) in
+      let n = x .numbers in
+      let same : r .counts ≡ cs = ext-getD uncounted (r .counts) cs (n .threads ∙ sym e) (λ t k. let k′ : t < threadLimit = omega (arith, n .threads) in
+      counts-are (countsOf (r .counts) t) (n .moved-are t k′) (n .waiting-are t k′) (x .names t k′) ∙ sym (h t k′)) in
       ap (λ (c : List Counts). record { counts = c; state = r .state }) same ∙ ap (λ (s : State). record { counts = cs; state = s }) (x .state)

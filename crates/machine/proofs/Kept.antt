@@ -3,6 +3,7 @@
 --     length-variables-after, length-locks-after, length-registers-after
 --                            an access and an instruction keep the lists' lengths
 --     access-below-limits    the instruction at a thread's place names locks and variables that the arrays have
+--     not-at-end             a thread that is not at its code's end, as the definitions say it
 --     step-idle              a step at the code's end
 --     stepped                any other step, from what the code finds; what it leaves is kept
 use Prim.Native.Nat.{ℕ, suc, _+_, _*_, _≤_, _<_}
@@ -129,7 +130,7 @@ module _ {s : List ℕ} {l : Layout} {starts counts vs ks : List ℕ} {ths : Lis
   at-end : getD ths t nobody .place ≡ getD counts t 0 → threadOf (stateIn l vs ks ths) t .place ≡ length (codeOf (programOf s l) t)
   at-end e = rw (thread-first, code-size) e
 
-  not-at-end : (getD ths t nobody .place ≡ getD counts t 0 → ⊥) → threadOf (stateIn l vs ks ths) t .place ≡ length (codeOf (programOf s l) t) → ⊥
+  pub not-at-end : (getD ths t nobody .place ≡ getD counts t 0 → ⊥) → threadOf (stateIn l vs ks ths) t .place ≡ length (codeOf (programOf s l) t) → ⊥
   not-at-end n e = n (ap (λ (u : Thread). u .place) (sym thread-first) ∙ e ∙ code-size)
 
   -- the place is that of an instruction

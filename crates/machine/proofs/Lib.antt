@@ -7,6 +7,7 @@
 --     Kept         the state in arrays, through one entry
 --     Threads      threads in two arrays
 --     Effect       what an instruction does, as the code says it
+--     Ends         a thread that is not at its end was never idle
 --     Between      the loop over the entries of a list
 --     Start        the initial values, as a loop finds them; the start in arrays
 --     StateBytes   the state's bytes, as loops write them
@@ -19,6 +20,7 @@ pub mod Fields
 pub mod Kept
 pub mod Threads
 pub mod Effect
+pub mod Ends
 pub mod Between
 pub mod Start
 pub mod StateBytes

@@ -98,7 +98,7 @@ module _ (p : Program) where
   unfolding run totals total
   run-sum ts h = from-sum _ ts h ∙ omega arith
 
-  from-absent : (r : Run) (ts : List ℕ) (n : ℕ) → Entries n ts → (t : ℕ) → n ≤ t → countsOf (runFrom p r ts .counts) t ≡ countsOf (r .counts) t
+  pub from-absent : (r : Run) (ts : List ℕ) (n : ℕ) → Entries n ts → (t : ℕ) → n ≤ t → countsOf (runFrom p r ts .counts) t ≡ countsOf (r .counts) t
   unfolding runFrom countedFor countsOf
   from-absent r [] n h t k = refl
   from-absent r (u ∷ us) n h t k =

@@ -1,4 +1,5 @@
 // The counts of each thread (the standard, "The step machine": "the counts moved, waiting and idle of each of eight threads").
+use program::limits::CODE_LIMIT;
 use program::limits::THREAD_LIMIT;
 ghost use mathlib.Core.Path.{_≡_};
 ghost use Prim.Native.Nat.{ℕ, _+_, _-_, _≤_, _<_};
@@ -55,23 +56,23 @@ pub fn times_named(list: &[u8], t: u8) -> usize
     n + part_names(&list[i..], t) as usize
 }
 
-// How many of a thread's entries were idle: those that are left of what the list names it. They are looked for only if there are any.
-fn idle_of(list: &[u8], t: usize, active: usize, idle: usize) -> usize
-    requires { ⌜ (t < threadLimit) × Active (now list) idle t active ⌝ }
+// How many of a thread's entries were idle: those that are left of what the list names it. They are looked for only if it is at its end.
+fn idle_of(list: &[u8], t: usize, active: usize, ended: bool) -> usize
+    requires { ⌜ (t < threadLimit) × Active (now list) t active ended ⌝ }
     ensures { λ r. ⌜ r ≡ timesNamed t (now (list .entry)) - active ⌝ }
 {
-    if idle == 0 {
-        return 0;
+    if ended {
+        return times_named(list, t as u8) - active;
     }
-    times_named(list, t as u8) - active
+    0
 }
 
 // A thread's counts.
-fn thread_counts(list: &[u8], t: usize, moved: usize, waiting: u32, idle: usize) -> Counts
-    requires { ⌜ (t < threadLimit) × Active (now list) idle t (moved + waiting) ⌝ }
+fn thread_counts(list: &[u8], t: usize, moved: usize, waiting: u32, ended: bool) -> Counts
+    requires { ⌜ (t < threadLimit) × Active (now list) t (moved + waiting) ended ⌝ }
     ensures { λ r. ⌜ r ≡ tallied (now (list .entry)) t moved waiting ⌝ }
 {
-    let left = idle_of(list, t, moved + waiting as usize, idle);
+    let left = idle_of(list, t, moved + waiting as usize, ended);
     Counts {
         moved: moved as u64,
         waiting: waiting as u64,
@@ -79,14 +80,15 @@ fn thread_counts(list: &[u8], t: usize, moved: usize, waiting: u32, idle: usize)
     }
 }
 
-// The counts of all threads: how often each moved and waited is given, and how many entries at least were idle.
+// The counts of all threads: how often each moved and waited is given, and where it is.
 pub fn counts_of(
     list: &[u8],
+    counts: &[usize; CODE_LIMIT],
+    places: &[usize; THREAD_LIMIT],
     moved: &[usize; THREAD_LIMIT],
     waiting: &[u32; THREAD_LIMIT],
-    idle: usize,
 ) -> [Counts; THREAD_LIMIT]
-    requires { ⌜ Tally (now list) (now moved) (now waiting) idle ⌝ }
+    requires { ⌜ Tally (now list) (now counts) (now places) (now moved) (now waiting) ⌝ }
     ensures { λ r. ⌜ ((t : ℕ) → t < threadLimit
         → countsOf r t ≡ tallied (now (list .entry)) t (getD (now (moved .entry)) t 0) (getD (now (waiting .entry)) t 0)) ⌝ }
 {
@@ -98,7 +100,8 @@ pub fn counts_of(
     let mut all = [none; THREAD_LIMIT];
     let mut t: usize = 0;
     while t < THREAD_LIMIT {
-        all[t] = thread_counts(list, t, moved[t], waiting[t], idle);
+        let ended = places[t] == counts[t];
+        all[t] = thread_counts(list, t, moved[t], waiting[t], ended);
         t += 1;
     }
     all

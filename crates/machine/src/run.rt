@@ -19,8 +19,8 @@ use program::limits::THREAD_LIMIT;
 use program::limits::VARIABLE_LIMIT;
 ghost use mathlib.Core.Bool.{true};
 ghost use mathlib.Core.Path.{_≡_};
-ghost use mathlib.Core.List.{[], _++_};
-ghost use Prim.Native.Nat.{_≤_, _<_};
+ghost use mathlib.Core.List.{List, [], _++_};
+ghost use Prim.Native.Nat.{_+_, _≤_, _<_};
 ghost use lib.ListN.{length, getD, set, drop};
 ghost use Rattle.program.specs.Choice.{choose};
 ghost use Rattle.program.specs.View.{accessOf};
@@ -35,10 +35,11 @@ ghost use Rattle.machine.specs.Step.{waits, variablesAfter, locksAfter, 
 ghost use Rattle.machine.specs.Step as Step;
 ghost use Rattle.machine.specs.Run.{Entries, runFrom, run};
 ghost use Rattle.machine.specs.Internal.Effect.{Doing, MovedBy};
+ghost use Rattle.machine.specs.Internal.Tally.{AtMost, Numbers, RunTo};
 ghost use Rattle.machine.specs.Internal.Kept.{Ended, Kept, stateIn, threadIn, threadsIn, fromHere, moveThread};
 
-// After so many idle entries it is asked whether every thread is at its end.
-const IDLE_ENTRIES: usize = 256;
+// After so many entries it is asked whether every thread is at its end.
+const PART: usize = 4096;
 
 // A thread's own part of a Move, where a READ finds `value`: its record is moved, and laid back into the arrays. Of the registers only
 // the one that the Move sets is stored, with the Move's own value: a store of all eight costs more than the rest of the move.
@@ -173,18 +174,72 @@ fn all_ended(counts: &[usize; CODE_LIMIT], places: &[usize; THREAD_LIMIT]) -> bo
     places[7] == counts[7]
 }
 
-// Whether what is left of a list is known to be idle. Looked at seldom, so that an idle entry costs little.
-fn rest_is_idle(idle: usize, counts: &[usize; CODE_LIMIT], places: &[usize; THREAD_LIMIT]) -> bool
-    ensures { λ r. ⌜ (r ≡ true → Ended (now (counts .entry)) (now (places .entry))) ⌝ }
+// Part of a list, one entry after the other: how often each thread moved and waited is added to what it did in the `before` entries before.
+// The two arrays have elements of two sizes: of one size the compiler would use one store for both, and be slower.
+fn part_entries(
+    rows: &[u8],
+    s: &[u8],
+    l: Layout,
+    starts: &[usize; CODE_LIMIT],
+    counts: &[usize; CODE_LIMIT],
+    list: &[u8],
+    variables: &mut [u32; VARIABLE_LIMIT],
+    locks: &mut [u8; LOCK_LIMIT],
+    places: &mut [usize; THREAD_LIMIT],
+    registers: &mut [[u32; REGISTER_COUNT]; THREAD_LIMIT],
+    before: usize,
+    moved: &mut [usize; THREAD_LIMIT],
+    waiting: &mut [u32; THREAD_LIMIT],
+)
+    requires { ⌜ (now rows ≡ rowTable) × SectionTable (now s) l (now starts) (now counts) × Entries (l .threads) (now list)
+        × Kept l (now counts) (now variables) (now locks) (threadsIn (now places) (now registers))
+        × AtMost before (now moved) (now waiting) × (before + length (now list) ≤ listLimit) ⌝ }
+    ensures { λ _. ⌜ ((cs : List Counts) → Numbers cs (now (moved .entry)) (now (waiting .entry))
+        → RunTo (runFrom (programOf (now (s .entry)) l) (record {
+          counts = cs;
+          state =
+              stateIn l (now (variables .entry)) (now (locks .entry)) (threadsIn (now (places .entry)) (now (registers .entry)));
+        }) (now (list .entry)))
+        (stateIn l (now (variables .exit)) (now (locks .exit)) (threadsIn (now (places .exit)) (now (registers .exit)))) (now (moved .exit)) (now (waiting .exit))) ⌝ }
+    ensures { λ _. ⌜ AtMost (before + length (now (list .entry))) (now (moved .exit)) (now (waiting .exit))
+        × Kept l (now (counts .entry)) (now (variables .exit)) (now (locks .exit)) (threadsIn (now (places .exit)) (now (registers .exit))) ⌝ }
 {
-    if idle % IDLE_ENTRIES != 0 {
-        return false;
+    let mut i: usize = 0;
+    while i < list.len() {
+        let t = list[i];
+        let at = t as usize;
+        i += 1;
+        match step(
+            rows,
+            s,
+            l,
+            starts,
+            counts,
+            t,
+            variables,
+            locks,
+            places,
+            registers,
+        ) {
+            Outcome::Moved => moved[at] += 1,
+            Outcome::Waiting => waiting[at] += 1,
+            Outcome::Idle => {}
+        }
     }
-    all_ended(counts, places)
 }
 
-// The entries of a list, one after the other, until every thread is found to be at its end: then the rest is idle, and need only be
-// counted. The arrays that are counted in have elements of two sizes: of one size the compiler would use one store for both, and be slower.
+// Where the part of a list that begins at an index ends.
+fn part_end(i: usize, length: usize) -> usize
+    requires { ⌜ i < length ⌝ }
+    ensures { λ e. ⌜ (i < e) × (e ≤ length) ⌝ }
+{
+    if PART < length - i {
+        return i + PART;
+    }
+    length
+}
+
+// The entries of a list, a part at a time, until every thread is found to be at its end: then the rest is idle, and need only be counted.
 fn entries(
     rows: &[u8],
     s: &[u8],
@@ -206,36 +261,31 @@ fn entries(
 {
     let mut moved = [0usize; THREAD_LIMIT];
     let mut waiting = [0u32; THREAD_LIMIT];
-    let mut idle: usize = 0;
     let mut stop = list.len();
     let mut i: usize = 0;
     while i < stop {
-        let t = list[i];
-        let at = t as usize;
-        i += 1;
-        match step(
+        let e = part_end(i, list.len());
+        part_entries(
             rows,
             s,
             l,
             starts,
             counts,
-            t,
+            &list[i..e],
             variables,
             locks,
             places,
             registers,
-        ) {
-            Outcome::Moved => moved[at] += 1,
-            Outcome::Waiting => waiting[at] += 1,
-            Outcome::Idle => {
-                idle += 1;
-                if rest_is_idle(idle, counts, places) {
-                    stop = i;
-                }
-            }
+            i,
+            &mut moved,
+            &mut waiting,
+        );
+        i = e;
+        if all_ended(counts, places) {
+            stop = i;
         }
     }
-    counts_of(list, &moved, &waiting, idle)
+    counts_of(list, counts, places, &moved, &waiting)
 }
 
 // A list, run from the start of a sound file's program: the counts, and the end state's bytes.

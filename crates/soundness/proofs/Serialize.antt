@@ -20,12 +20,12 @@ use Rattle.program.proofs.Lists.{getD-replicate-same}
 use Rattle.program.specs.Layout.{Program}
 use Rattle.reduction.specs.Moves.{outside}
 use Rattle.reduction.specs.Reduction.{Quiescent}
-use Rattle.reduction.proofs.Reduction.{reduction, same-length, same-precedence}
+use Rattle.reduction.proofs.Reduction.{reduction, same-precedence}
 use Rattle.soundness.specs.Internal.Access.{Owns}
 use Rattle.soundness.specs.Internal.Flow.{Leads}
 use Rattle.soundness.specs.Internal.Instance.{ThreadsAnnotated, labelOf, Invariant, machineMoves}
 use Rattle.soundness.specs.Demand.{ThreadsOf, Serialized}
-use Rattle.soundness.specs.Naming.{Move, Named, namedStart, moves, movesOf, Precedes}
+use Rattle.soundness.specs.Naming.{Named, namedStart, moves, movesOf, Precedes}
 use Rattle.soundness.specs.Internal.Prefix.{Prefix, outer, statusOf, Below, below-outer, proper-outer}
 use Rattle.soundness.specs.Internal.Traced.{threadsOf}
 use Rattle.soundness.proofs.Instance.{inside-row, machine-movers}

@@ -1,6 +1,6 @@
 -- `hogunlas_run_by_thread` meets its contract: `run`'s answer as numbers, its buffer, and demand 3. Assumes nothing.
 use borrow.Author.Needs.{needs}
-use mathlib.Core.Path.{_≡_, sym, _∙_, ap}
+use mathlib.Core.Path.{sym, _∙_, ap}
 use Rattle.hogunlas.specs.Numbers.{endNumbers, ranNumbers}
 use Rattle.hogunlas.specs.declared.RunEnd.{RunEnd}
 use Rattle.hogunlas.proofs.Numbers.{ran-refused}

@@ -1,5 +1,5 @@
 -- `counts_of` meets its contract: the counts of the threads before t are there. Assumes nothing.
-use Prim.Native.Nat.{ℕ, _+_, _-_, _≤_, _<_}
+use Prim.Native.Nat.{ℕ, _-_, _≤_, _<_}
 use mathlib.Core.Path.{_≡_, _∙_}
 use mathlib.Core.List.{List}
 use native.Mathlib.Decide.{ℕ-discrete}
@@ -19,15 +19,28 @@ abbrev Counted : (list moved waiting : List ℕ) → List Counts → ℕ → Typ
 Counted list moved waiting all t = (u : ℕ) → u < t → countsOf all u ≡ tallied list u (getD moved u 0) (getD waiting u 0)
 
 abbrev Inv-loop : tie.InvT-loop
-Inv-loop list moved waiting idle all₀ t₀ all t = (t ≤ threadLimit) × (length all ≡ threadLimit) × Counted list moved waiting all t
+Inv-loop list counts places moved waiting all₀ t₀ all t = (t ≤ threadLimit) × (length all ≡ threadLimit) × Counted list moved waiting all t
 
 abbrev μ-loop : tie.MeasureT-loop
-μ-loop list moved waiting idle all₀ t₀ all t = threadLimit - t
+μ-loop list counts places moved waiting all₀ t₀ all t = threadLimit - t
 
 loop-holds : tie.Need-loop-holds Inv-loop μ-loop
 loop-holds c = (omega arith, search needs, λ u h. absurd (let z : ⊥ = omega arith in z))
 
--- `thread_counts(list, t, moved[t], waiting[t], idle)`
+-- `let ended = places[t] == counts[t]`
+mul-ended : tie.Need-mul-ended Inv-loop μ-loop
+mul-ended c = search needs
+
+element-copy-out-ended : tie.Need-element-copy-out-ended Inv-loop μ-loop
+element-copy-out-ended c = search needs
+
+mul-ended-2 : tie.Need-mul-ended-2 Inv-loop μ-loop
+mul-ended-2 c = search needs
+
+element-copy-out-ended-2 : tie.Need-element-copy-out-ended-2 Inv-loop μ-loop
+element-copy-out-ended-2 c = search needs
+
+-- `all[t] = thread_counts(list, t, moved[t], waiting[t], ended)`
 mul-thread-counts : tie.Need-mul-thread-counts Inv-loop μ-loop
 mul-thread-counts c = search needs
 
@@ -43,10 +56,9 @@ element-copy-out-thread-counts-2 c = search needs
 thread-counts-requires : tie.Need-thread-counts-requires Inv-loop μ-loop
 unfolding Tally
 thread-counts-requires c κs =
-    let t = c .before .before .loop-test .taken in
-    (t, c .before .before .before .before .before .pre (c .before .before .before .loop .t) t)
+    let t = c .before .before .before .before .loop-test .taken in
+    (t, c .before .before .before .before .before .before .before .pre (c .before .before .before .before .before .loop .t) t)
 
--- `all[t] = ..`
 mul-all : tie.Need-mul-all Inv-loop μ-loop
 mul-all c = search needs
 
@@ -63,7 +75,7 @@ loop-less c = omega arith
 loop-again : tie.Need-loop-again Inv-loop μ-loop
 unfolding countsOf
 loop-again c =
-    let o = c .before .before .before .before .loop in (
+    let o = c .before .before .before .before .before .before .loop in (
       omega arith,
       length-set (o .all) (o .t) _ ∙ o .inv .1,
       λ u h. elim (ℕ-discrete u (o .t)) [
@@ -82,6 +94,10 @@ counts-of-spec =
     Inv-loop
     μ-loop
     loop-holds
+    mul-ended
+    element-copy-out-ended
+    mul-ended-2
+    element-copy-out-ended-2
     mul-thread-counts
     element-copy-out-thread-counts
     mul-thread-counts-2

@@ -1,231 +1,168 @@
 -- `entries` meets its contract. The loop's invariant: running the entries that are left from what is kept is running the whole list, and
 -- the loop stops before the list's end only where every thread is at its end. Assumes nothing.
 use Prim.Native.Nat.{ℕ, _+_, _-_, _≤_, _<_}
-use mathlib.Core.Path.{_≡_, refl, sym, ap, _∙_}
+use mathlib.Core.Path.{_≡_, refl, ap, _∙_}
 use mathlib.Core.List.{List}
+use mathlib.Core.Logic.{dite}
+use native.Mathlib.Decide.{decLt}
 use native.Mathlib.Omega.{arith}
 use borrow.Author.Needs.{needs}
-use lib.ListN.{length, getD}
-use Rattle.program.specs.Limits.{threadLimit}
+use lib.ListN.{length, getD, take, drop, length-take, length-drop}
+use lib.Seq.{getD-take, getD-drop, length-take-le}
 use Rattle.program.specs.Layout.{programOf}
-use Rattle.machine.specs.Run.{Entries, runFrom, total}
-use Rattle.machine.specs.Internal.Kept.{threadsIn, fromHere, Ended}
-use Rattle.machine.specs.declared.thread.Outcome.{Outcome}
+use Rattle.program.specs.Limits.{threadLimit}
+use Rattle.machine.specs.Run.{Entries, runFrom}
+use Rattle.machine.specs.Internal.Kept.{threadsIn, fromHere, nobody, Ended}
 use Rattle.machine.specs.declared.thread.Thread.{Thread}
-use Rattle.machine.proofs.Kept.{step-idle}
+use Rattle.machine.proofs.Between.{Between, Whole, between-start, between-next, between-end, whole-tally, whole-counts}
 use Rattle.machine.proofs.Threads.{threads-at}
-use Rattle.machine.proofs.Between.{Between, Whole, movedAfter, waitingAfter, idleAfter, between-start, between-next, between-end, whole-tally, whole-counts}
 use Rattle.machine.proofs.run.entries.Statement.{statement}
 use Rattle.machine.proofs.run.entries.Tie as tie
 
 abbrev Inv-loop : tie.InvT-loop
-Inv-loop rows s l starts counts list variables₀ locks₀ places₀ registers₀ moved₀ waiting₀ idle₀ stop₀ i₀ variables locks places registers moved waiting idle stop i =
+Inv-loop rows s l starts counts list variables₀ locks₀ places₀ registers₀ moved₀ waiting₀ stop₀ i₀ variables locks places registers moved waiting stop i =
     (i ≤ stop)
     × (stop ≤ length list)
-    × (idle ≤ i)
-    × (stop < length list → (i ≡ stop) × (0 < idle) × Ended counts places)
-    × Between s l counts list variables₀ locks₀ (threadsIn places₀ registers₀) variables locks (threadsIn places registers) moved waiting idle i
+    × (stop < length list → (i ≡ stop) × Ended counts places)
+    × Between s l counts list variables₀ locks₀ (threadsIn places₀ registers₀) variables locks (threadsIn places registers) moved waiting i
 
 abbrev μ-loop : tie.MeasureT-loop
-μ-loop rows s l starts counts list variables₀ locks₀ places₀ registers₀ moved₀ waiting₀ idle₀ stop₀ i₀ variables locks places registers moved waiting idle stop i =
-    stop - i
+μ-loop rows s l starts counts list variables₀ locks₀ places₀ registers₀ moved₀ waiting₀ stop₀ i₀ variables locks places registers moved waiting stop i = stop - i
 
--- an entry is the number of one of eight threads
-entry-small : (list : List ℕ) (threads i : ℕ) → Entries threads list → i < length list → threads ≤ threadLimit → getD list i 0 < threadLimit
+-- a part is as long as it is cut
+part-long : (list : List ℕ) (i e : ℕ) → i ≤ e → e ≤ length list → length (take (e - i) (drop i list)) ≡ e - i
+part-long list i e h k = length-take-le (e - i) (drop i list) (omega (arith, length-drop i list))
+
+-- each entry of a part names a thread
+part-named : (threads : ℕ) (list : List ℕ) (i n : ℕ) → Entries threads list → Entries threads (take n (drop i list))
 unfolding Entries
-entry-small list threads i e h k = omega (arith, e i h)
+part-named threads list i n h j k =
+    let a : j < n = omega (arith, k, length-take n (drop i list)) in
+    let b : i + j < length list = omega (arith, k, length-take n (drop i list), length-drop i list) in
+    rw (getD-take n (drop i list) j 0 a, getD-drop i list j 0) (h (i + j) b)
 
--- where a step is done: what holds past this entry
-module _ (c : tie.After-step Inv-loop μ-loop) where
+-- where a part is run: what holds past it
+module _ (c : tie.After-part-entries Inv-loop μ-loop) where
   abbrev start : tie.Start Inv-loop μ-loop
-  start = c .before .before .before .before .before .before .before .before .before .before .before
+  start = c .before .before .before .before .before .before .before .before .before .before .before .before .before .before
 
   abbrev i : ℕ
-  i = c .before .before .before .before .before .before .before .loop .i
+  i = c .before .before .before .before .before .before .before .before .before .before .loop .i
 
-  abbrev t : ℕ
-  t = getD (start .args .list .now) i 0
+  abbrev e : ℕ
+  e = c .before .before .before .before .before .before .before .before .part-end .result
 
-  before-stop : i < c .before .before .before .before .before .before .before .loop .stop
-  before-stop = c .before .before .before .before .before .before .loop-test .taken
+  forward : (i < e) × (e ≤ length (start .args .list .now))
+  forward = c .before .before .before .before .before .before .before .before .part-end .ensures
 
-  before-end : i < length (start .args .list .now)
-  before-end = omega (arith, before-stop, c .before .before .before .before .before .before .before .loop .inv .1)
-
-  small : t < threadLimit
-  small = entry-small (start .args .list .now) (start .args .l .threads) i (start .pre .2) before-end (start .pre .1 .sound .threads)
-
-  -- no thread has moved or waited more often than there were entries
-  few-moved : getD (c .before .before .before .before .before .before .before .loop .moved) t 0 ≤ i
-  unfolding total
-  few-moved = let x = c .before .before .before .before .before .before .before .loop .inv .4 in omega (arith, x .at-most t small, x .moved-are t small)
-
-  few-waiting : getD (c .before .before .before .before .before .before .before .loop .waiting) t 0 ≤ i
-  unfolding total
-  few-waiting = let x = c .before .before .before .before .before .before .before .loop .inv .4 in omega (arith, x .at-most t small, x .waiting-are t small)
+  before-stop : i < c .before .before .before .before .before .before .before .before .before .before .loop .stop
+  before-stop = c .before .before .before .before .before .before .before .before .before .loop-test .taken
 
   -- the loop has not stopped
-  going : {A : Type 0} → c .before .before .before .before .before .before .before .loop .stop < length (start .args .list .now) → A
-  going h =
-      let stopped = c .before .before .before .before .before .before .before .loop .inv .3 h .0 in
-      absurd (let z : ⊥ = omega (arith, stopped, before-stop) in z)
+  going : {A : Type 0} → c .before .before .before .before .before .before .before .before .before .before .loop .stop < length (start .args .list .now) → A
+  going h = absurd (let z : ⊥ = omega (arith, c .before .before .before .before .before .before .before .before .before .before .loop .inv .2 h .0, before-stop) in z)
 
-  past : {o : Outcome} → c .step .result ≡ o
-      → let loop = c .before .before .before .before .before .before .before .loop in
-      let after = c .step .last .1 .1 .1 .1 .1 .1 in
+  -- so it goes on to the list's end
+  to-end : c .before .before .before .before .before .before .before .before .before .before .loop .stop ≡ length (start .args .list .now)
+  to-end = dite (decLt (c .before .before .before .before .before .before .before .before .before .before .loop .stop) (length (start .args .list .now))) going
+      (λ (n : ¬ (c .before .before .before .before .before .before .before .before .before .before .loop .stop < length (start .args .list .now))). omega (arith, n, c .before .before .before .before .before .before .before .before .before .before .loop .inv .1))
+
+  past : let after = c .part-entries .last .1 .1 .1 .1 .1 .1 in
       Between (start .args .s .now) (start .args .l) (start .args .counts .now) (start .args .list .now)
       (start .args .variables .now) (start .args .locks .now) (threadsIn (start .args .places .now) (start .args .registers .now))
-      (after .0) (after .1 .0) (threadsIn (after .1 .1 .0) (after .1 .1 .1 .0))
-      (movedAfter o t (loop .moved)) (waitingAfter o t (loop .waiting)) (idleAfter o (loop .idle)) (i + 1)
-  past e =
-      let does = c .step .ensures in
-      between-next (c .before .before .before .before .before .before .before .loop .inv .4) before-end small (sym e ∙ does .0) (does .1 .0) (does .1 .1)
+      (after .0) (after .1 .0) (threadsIn (after .1 .1 .0) (after .1 .1 .1 .0)) (after .1 .1 .1 .1 .1 .0) (after .1 .1 .1 .1 .1 .1 .0) e
+  past =
+      let list = start .args .list .now in
+      let does = c .part-entries .ensures in
+      let there : i + (e - i) ≡ e = omega (arith, forward .0) in
+      let long : i + length (take (e - i) (drop i list)) ≡ i + (e - i) = ap (λ (n : ℕ). i + n) (part-long list i e (omega (arith, forward .0)) (forward .1)) in
+      rw there at (between-next (c .before .before .before .before .before .before .before .before .before .before .loop .inv .3) (e - i) (does .0) (rw long at (does .1 .0)) (does .1 .1))
 
 loop-holds : tie.Need-loop-holds Inv-loop μ-loop
-loop-holds c = (omega arith, omega arith, omega arith, λ h. absurd (let z : ⊥ = omega arith in z), between-start _ _ (c .before .before .before .pre .4))
+loop-holds c = (omega arith, omega arith, λ h. absurd (let z : ⊥ = omega arith in z), between-start _ _ (c .before .before .before .pre .4))
 
--- `let t = list[i]`
-shared-slice-read-t : tie.Need-shared-slice-read-t Inv-loop μ-loop
-shared-slice-read-t c = search needs
+-- `let e = part_end(i, list.len())`
+part-end-requires : tie.Need-part-end-requires Inv-loop μ-loop
+part-end-requires c κs = omega (arith, c .loop-test .taken, c .before .loop .inv .1)
 
--- `let at = t as usize`
-cast-at : tie.Need-cast-at Inv-loop μ-loop
-cast-at c =
-    let b = c .before .before .before .before .before .before in
-    let o = c .before .before .loop in
-    let h : o .i < length (b .args .list .now) = omega (arith, c .before .loop-test .taken, o .inv .1) in
-    omega (arith, entry-small (b .args .list .now) (b .args .l .threads) (o .i) (b .pre .2) h (b .pre .1 .sound .threads))
+-- `part_entries(`
+sub-part-entries : tie.Need-sub-part-entries Inv-loop μ-loop
+sub-part-entries c = omega (arith, c .part-end .ensures .0)
 
--- `i += 1`
-add-i : tie.Need-add-i Inv-loop μ-loop
-add-i c = search needs
+part-part-entries-start : tie.Need-part-part-entries-start Inv-loop μ-loop
+part-part-entries-start c = search needs
 
--- `match step(`
-step-requires : tie.Need-step-requires Inv-loop μ-loop
-unfolding Entries
-step-requires c κs =
-    let b = c .before .before .before .before .before .before .before .before .before .before in
-    let o = c .before .before .before .before .before .before .loop in
-    let h : o .i < length (b .args .list .now) = omega (arith, c .before .before .before .before .before .loop-test .taken, o .inv .1) in
-    (b .pre .0, b .pre .1, b .pre .2 (o .i) h, o .inv .4 .kept)
+part-part-entries-end : tie.Need-part-part-entries-end Inv-loop μ-loop
+part-part-entries-end c = search needs
 
--- `Outcome::Moved => moved[at] += 1`
-enum-told : tie.Need-enum-told Inv-loop μ-loop
-enum-told c = search needs
+part-entries-requires : tie.Need-part-entries-requires Inv-loop μ-loop
+part-entries-requires c κs =
+    let b = c .before .before .before .before .before .before .before .before .before .before .before .before .before in
+    let o = c .before .before .before .before .before .before .before .before .before .loop in
+    let p = c .before .before .before .before .before .before .before .part-end in
+    let list = b .args .list .now in
+    let long = part-long list (o .i) (p .result) (omega (arith, p .ensures .0)) (p .ensures .1) in (
+      b .pre .0,
+      b .pre .1,
+      part-named (b .args .l .threads) list (o .i) (p .result - o .i) (b .pre .2),
+      o .inv .3 .kept,
+      o .inv .3 .at-most,
+      omega (arith, long, p .ensures .0, p .ensures .1, b .pre .3),
+    )
 
-mul-moved : tie.Need-mul-moved Inv-loop μ-loop
-mul-moved c = omega (arith, small (c .before .before))
+-- `if all_ended(counts, places) {`
+all-ended-requires : tie.Need-all-ended-requires Inv-loop μ-loop
+all-ended-requires c κs = search needs
 
-array-read-moved : tie.Need-array-read-moved Inv-loop μ-loop
-array-read-moved c = small (c .before .before)
-
-add-moved : tie.Need-add-moved Inv-loop μ-loop
-add-moved c = let s = c .before .before in omega (arith, few-moved s, before-end s, start s .pre .3)
-
-array-write-moved : tie.Need-array-write-moved Inv-loop μ-loop
-array-write-moved c = small (c .before .before)
-
+-- `stop = i`
 loop-less : tie.Need-loop-less Inv-loop μ-loop
-loop-less c = omega (arith, before-stop (c .before .before))
+loop-less c = let s = c .before .before .before in omega (arith, before-stop s, forward s .0)
 
 loop-again : tie.Need-loop-again Inv-loop μ-loop
 loop-again c =
-    let s = c .before .before in
-    (omega (arith, before-stop s), omega (arith, before-stop s), omega (arith, s .before .before .before .before .before .before .before .loop .inv .2), going s, past s (c .enum-told .given .1))
-
--- `Outcome::Waiting => waiting[at] += 1`
-enum-told-2 : tie.Need-enum-told-2 Inv-loop μ-loop
-enum-told-2 c = search needs
-
-mul-waiting : tie.Need-mul-waiting Inv-loop μ-loop
-mul-waiting c = omega (arith, small (c .before .before))
-
-array-read-waiting : tie.Need-array-read-waiting Inv-loop μ-loop
-array-read-waiting c = small (c .before .before)
-
-add-waiting : tie.Need-add-waiting Inv-loop μ-loop
-add-waiting c = let s = c .before .before in omega (arith, few-waiting s, before-end s, start s .pre .3)
-
-array-write-waiting : tie.Need-array-write-waiting Inv-loop μ-loop
-array-write-waiting c = small (c .before .before)
+    let s = c .before .before .before in
+    (omega arith, forward s .1, λ h. (refl, c .before .all-ended .ensures (c .if1 .taken)), past s)
 
 loop-less-2 : tie.Need-loop-less-2 Inv-loop μ-loop
-loop-less-2 c = omega (arith, before-stop (c .before .before))
+loop-less-2 c = let s = c .before .before .before in omega (arith, before-stop s, forward s .0)
 
 loop-again-2 : tie.Need-loop-again-2 Inv-loop μ-loop
 loop-again-2 c =
-    let s = c .before .before in
-    (omega (arith, before-stop s), omega (arith, before-stop s), omega (arith, s .before .before .before .before .before .before .before .loop .inv .2), going s, past s (c .enum-told2 .given .1))
-
--- `idle += 1`
-enum-told-3 : tie.Need-enum-told-3 Inv-loop μ-loop
-enum-told-3 c = search needs
-
-add-idle : tie.Need-add-idle Inv-loop μ-loop
-add-idle c = let s = c .before .before in omega (arith, s .before .before .before .before .before .before .before .loop .inv .2, before-end s, start s .pre .3)
-
--- `if rest_is_idle(idle, counts, places) {`
-rest-is-idle-requires : tie.Need-rest-is-idle-requires Inv-loop μ-loop
-rest-is-idle-requires c κs = search needs
-
--- `stop = i`
-loop-less-3 : tie.Need-loop-less-3 Inv-loop μ-loop
-loop-less-3 c = omega (arith, before-stop (c .before .before .before .before .before))
-
-loop-again-3 : tie.Need-loop-again-3 Inv-loop μ-loop
-loop-again-3 c =
-    let s = c .before .before .before .before .before in (
-      omega arith,
-      omega (arith, before-end s),
-      omega (arith, s .before .before .before .before .before .before .before .loop .inv .2),
-      λ h. (refl, omega arith, c .before .rest-is-idle .ensures (c .if1 .taken)),
-      past s (c .before .before .before .enum-told3 .given .1),
-    )
-
--- the loop goes on
-loop-less-4 : tie.Need-loop-less-4 Inv-loop μ-loop
-loop-less-4 c = omega (arith, before-stop (c .before .before .before .before .before))
-
-loop-again-4 : tie.Need-loop-again-4 Inv-loop μ-loop
-loop-again-4 c =
-    let s = c .before .before .before .before .before in (
-      omega (arith, before-stop s),
-      omega (arith, before-stop s),
-      omega (arith, s .before .before .before .before .before .before .before .loop .inv .2),
-      going s,
-      past s (c .before .before .before .enum-told3 .given .1),
-    )
+    let s = c .before .before .before in
+    (omega (arith, to-end s, forward s .1), omega (arith, to-end s), going s, past s)
 
 -- where the loop has ended: the whole list is run
 module _ (c : tie.After-loop Inv-loop μ-loop) where
   abbrev begun : tie.Start Inv-loop μ-loop
   begun = c .before .before .before .before .before
 
+  -- where the threads are
+  there : (t : ℕ) → t < threadLimit
+      → getD (threadsIn (c .before .loop .places) (c .before .loop .registers)) t nobody .place ≡ getD (c .before .loop .places) t 0
+  there t h =
+      let o = c .before .loop in
+      ap (λ (th : Thread). th .place) (threads-at (o .places) (o .registers) t (omega (arith, o .inv .3 .kept .threads)))
+
   whole : let o = c .before .loop in
-      Whole (begun .args .l) (begun .args .list .now) (o .variables) (o .locks) (threadsIn (o .places) (o .registers)) (o .moved) (o .waiting) (o .idle)
+      Whole (begun .args .l) (begun .args .counts .now) (begun .args .list .now) (o .variables) (o .locks) (threadsIn (o .places) (o .registers)) (o .moved) (o .waiting)
       (runFrom (programOf (begun .args .s .now) (begun .args .l))
       (fromHere (begun .args .l) (begun .args .variables .now) (begun .args .locks .now) (threadsIn (begun .args .places .now) (begun .args .registers .now)))
       (begun .args .list .now))
   unfolding Ended
   whole =
       let o = c .before .loop in
-      let kept = o .inv .4 .kept in
-      between-end (o .inv .4) (begun .pre .2) (λ h.
-      let stopped = o .inv .3 (omega (arith, c .loop-test .left)) in (
-        stopped .1,
-        λ t k.
-            let there = threads-at (o .places) (o .registers) t (omega (arith, kept .threads, begun .pre .1 .sound .threads)) in
-            step-idle (begun .pre .1) kept t k (ap (λ (th : Thread). th .place) there ∙ stopped .2 t (omega (arith, begun .pre .1 .sound .threads))),
-      ))
+      between-end (begun .pre .1) (begun .pre .2) (o .inv .3) (λ h t k.
+      let small : t < threadLimit = omega (arith, begun .pre .1 .sound .threads) in
+      there t small ∙ o .inv .2 (omega (arith, c .loop-test .left)) .1 t small)
 
--- `counts_of(list, &moved, &waiting, idle)`
+-- `counts_of(list, counts, places, &moved, &waiting)`
 counts-of-requires : tie.Need-counts-of-requires Inv-loop μ-loop
-counts-of-requires c κs = whole-tally (whole (c .before .before))
+counts-of-requires c κs = let l = c .before .before .before in whole-tally (whole l) (l .before .loop .places) (there l)
 
 returns : tie.Need-returns Inv-loop μ-loop
 returns c =
-    let l = c .before .before .before in
-    (whole-counts (whole l) (c .counts-of .result) (search needs) (c .counts-of .ensures), l .before .loop .inv .4 .kept)
+    let l = c .before .before .before .before in
+    (whole-counts (whole l) (c .counts-of .result) (search needs) (c .counts-of .ensures), l .before .loop .inv .3 .kept)
 
 pub entries-spec : {M : Type 1} → statement M
 entries-spec =
@@ -234,30 +171,15 @@ entries-spec =
     Inv-loop
     μ-loop
     loop-holds
-    shared-slice-read-t
-    cast-at
-    add-i
-    step-requires
-    enum-told
-    mul-moved
-    array-read-moved
-    add-moved
-    array-write-moved
+    part-end-requires
+    sub-part-entries
+    part-part-entries-start
+    part-part-entries-end
+    part-entries-requires
+    all-ended-requires
     loop-less
     loop-again
-    enum-told-2
-    mul-waiting
-    array-read-waiting
-    add-waiting
-    array-write-waiting
     loop-less-2
     loop-again-2
-    enum-told-3
-    add-idle
-    rest-is-idle-requires
-    loop-less-3
-    loop-again-3
-    loop-less-4
-    loop-again-4
     counts-of-requires
     returns)

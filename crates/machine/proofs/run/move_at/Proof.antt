@@ -1,8 +1,7 @@
 -- `move_at` meets its contract: the moved record is laid back, of its registers the one that the Move sets. Assumes nothing.
-use Prim.Native.Nat.{ℕ, _<_}
+use Prim.Native.Nat.{ℕ}
 use mathlib.Core.Path.{_≡_, sym, ap, _∙_, subst}
 use mathlib.Core.List.{List, []}
-use native.Mathlib.Omega.{arith}
 use borrow.Author.Needs.{needs}
 use lib.ListN.{getD, set}
 use Rattle.program.specs.View.{Access}
