@@ -35,7 +35,7 @@ extern "C" {
 
 /* The limits. */
 #define HOGUNLAS_MAX_FILE 33173  /* bytes of the largest file that is not refused */
-#define HOGUNLAS_MAX_THREADS 8   /* threads of a file, and whose counts run answers */
+#define HOGUNLAS_MAX_THREADS 8   /* threads that a file may have; run answers counts of so many */
 #define HOGUNLAS_MAX_REPORT 8200 /* bytes of the longest report */
 #define HOGUNLAS_MAX_LIST 65536  /* entries of the longest list */
 #define HOGUNLAS_MAX_STATE 544   /* bytes of the longest end state */

@@ -90,7 +90,7 @@ static int none_from(const hogunlas_ran *ran, size_t first)
     return 1;
 }
 
-/* The counts of all threads together. */
+/* How many entries are counted in all. */
 static uint64_t sum(const hogunlas_ran *ran)
 {
     uint64_t entries = 0;

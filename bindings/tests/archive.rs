@@ -11,7 +11,7 @@ use std::path::Path;
 
 use c_compiler::{assert_compiled, compile};
 use ffi::{Counts, Judged, Printed, Ran};
-use hogunlas::MAX_THREADS;
+use hogunlas::MAX_THREADS; // the included ../src/ffi.rs says `use crate::MAX_THREADS`
 use hogunlas_reference::{judge, machine, printout, reader, Refusal};
 
 /// The names that the archive defines. Its first member is the index that linkers look them up in:

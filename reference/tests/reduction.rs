@@ -408,7 +408,8 @@ fn the_sum_of_moves_does_not_give_each_threads() {
     let (given, other) = ([0, 1, 0, 0, 1, 1, 0, 0], [0, 0, 0, 1, 1, 1, 1, 1]);
     let ends = [&given, &other].map(|list| run_uninterrupted(&program, list).unwrap());
     assert_eq!(ends[0], ends[1]);
-    assert_eq!(given.len(), other.len());
+    let sums = [&given, &other].map(|list| moved_counts(&program, list).iter().sum::<u64>());
+    assert_eq!(sums[0], sums[1]);
     assert_eq!(moved_counts(&program, &given)[..2], [5, 3]);
     assert_eq!(moved_counts(&program, &other)[..2], [3, 5]);
     let trial = cut_into_units(&program, &given);

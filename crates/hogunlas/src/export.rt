@@ -23,7 +23,7 @@ pub struct JudgedNumbers {
     pub length: u64,
 }
 
-// Until standard 1.1 run had the name hogunlas_run, and its struct three counts: a program that was compiled for these does not link.
+// In standards 1.0 and 1.1 run had the name hogunlas_run, and its struct three counts: a program that was compiled for these does not link.
 #[repr(C)]
 pub struct RanNumbers {
     pub refusal: u32,

@@ -13,14 +13,12 @@
 --     whole-counts   its counts are those of the numbers
 use Prim.Native.Nat.{ℕ, _+_, _-_, _≤_, _<_}
 use mathlib.Core.Path.{_≡_, refl, sym, ap, _∙_, subst}
-use mathlib.Core.Bool.{false}
 use mathlib.Core.List.{List, [], _∷_, _++_}
 use mathlib.Core.Logic.{dite}
 use native.Mathlib.Decide.{ℕ-discrete, decLt}
 use native.Mathlib.Numerals.{add-one}
 use native.Mathlib.Omega.{arith}
 use borrow.Author.Tests.{eqb-false}
-use lib.Dec.{eqb}
 use lib.ListN.{length, getD, set, take, drop, replicate, length-set, length-drop, drop-of-length-le, take-append-drop}
 use lib.Seq.{drop-cons, drop-drop, ext-getD, getD-drop, getD-set-same, getD-set-other, set-getD}
 use Rattle.program.proofs.Lists.{getD-set-holds, getD-replicate-same}
@@ -39,7 +37,7 @@ use Rattle.machine.specs.declared.thread.Outcome.the-variants.{Moved, Wa
 use Rattle.machine.specs.declared.thread.Thread.{Thread}
 use Rattle.machine.proofs.Ends.{AtEnd, never-idle}
 use Rattle.machine.proofs.Kept.{not-at-end, step-idle}
-use Rattle.machine.proofs.Sums.{entries-head, entries-tail, length-counted, length-counts, from-named, from-absent}
+use Rattle.machine.proofs.Sums.{entries-head, entries-tail, count-kept, length-counted, length-counts, uncounted-named, from-absent}
 
 -- What is counted
 
@@ -228,25 +226,16 @@ Quiet s cs r =
 
 -- so it is where each thread is idle
 module _ (p : Program) (s : State) (still : (t : ℕ) → t < p .threads → (Idle ≡ outcome p t s) × (s ≡ step p t s)) where
-  quiet-entry : (cs : List Counts) (t : ℕ) → ((u : ℕ) → countsOf (countedFor t Idle cs) u .moved ≡ countsOf cs u .moved)
-      × ((u : ℕ) → countsOf (countedFor t Idle cs) u .waiting ≡ countsOf cs u .waiting)
-  unfolding countedFor countsOf
-  quiet-entry cs t = (
-    λ u. getD-set-holds (λ v (c : Counts). c .moved ≡ getD cs v uncounted .moved) cs t _ uncounted refl u refl,
-    λ u. getD-set-holds (λ v (c : Counts). c .waiting ≡ getD cs v uncounted .waiting) cs t _ uncounted refl u refl,
-  )
-
-  pub quiet : (cs : List Counts) (ts : List ℕ) → Entries (p .threads) ts → Quiet s cs (runFrom p (record { counts = cs; state = s }) ts)
+  quiet : (cs : List Counts) (ts : List ℕ) → Entries (p .threads) ts → Quiet s cs (runFrom p (record { counts = cs; state = s }) ts)
   unfolding runFrom
   quiet cs [] h = (refl, λ u. refl, λ u. refl)
   quiet cs (t ∷ ts) h =
       let e = still t (entries-head (p .threads) t ts h) in
       let q = quiet (countedFor t Idle cs) ts (entries-tail (p .threads) t ts h) in
-      let one = quiet-entry cs t in
       let next : _≡_ {A = Run} (record { counts = countedFor t Idle cs; state = s }) (record { counts = countedFor t (outcome p t s) cs; state = step p t s }) =
       ap {B = Run} (λ (o : Outcome). record { counts = countedFor t o cs; state = s }) (e .0)
       ∙ ap {B = Run} (λ (s′ : State). record { counts = countedFor t (outcome p t s) cs; state = s′ }) (e .1) in
-      subst (λ (r : Run). Quiet s cs (runFrom p r ts)) next (q .0, λ u. q .1 u ∙ one .0 u, λ u. q .2 u ∙ one .1 u)
+      subst (λ (r : Run). Quiet s cs (runFrom p r ts)) next (q .0, λ u. q .1 u ∙ count-kept (λ (c : Counts). c .moved) Idle cs t u refl, λ u. q .2 u ∙ count-kept (λ (c : Counts). c .waiting) Idle cs t u refl)
 
 -- the whole list's run: the state at its end, how often each thread moved and waited, that all of its entries are counted, and that one
 -- that is not at its end was never idle
@@ -279,8 +268,7 @@ module _ {s : List ℕ} {l : Layout} {starts counts list vs₀ ks₀ : List ℕ}
 
   -- of each thread all of its entries are counted
   all-named : (t : ℕ) → t < threadLimit → total (countsOf (whole .counts) t) ≡ timesNamed t list
-  unfolding total
-  all-named t h = from-named p (fromHere l vs₀ ks₀ ths₀) list t h ∙ rw (none-counted t) (omega arith)
+  all-named = uncounted-named p (stateIn l vs₀ ks₀ ths₀) list
 
   -- a thread that is not at its end was never idle, and one that is not there neither
   not-ended : whole .state ≡ here → (t : ℕ) → (getD ths t nobody .place ≡ getD counts t 0 → ⊥) → countsOf (whole .counts) t .idle ≡ 0

@@ -5,7 +5,7 @@
 --     never-idle    a thread that is not at its end after a list was idle at no entry of it
 use Prim.Native.Nat.{ℕ}
 use native.Mathlib.Decide.{ℕ-discrete}
-use mathlib.Core.Path.{_≡_, refl, sym, ap, _∙_}
+use mathlib.Core.Path.{_≡_, refl, ap, _∙_}
 use mathlib.Core.Logic.{_≢_}
 use mathlib.Core.Bool.{Bool, true, false}
 use mathlib.Core.List.{List, [], _∷_}
@@ -17,28 +17,23 @@ use Rattle.program.specs.Choice.{choose}
 use Rattle.program.specs.Layout.{Program, codeOf}
 use Rattle.program.specs.View.{accessOf}
 use Rattle.program.proofs.Differ.{differ}
-use Rattle.program.proofs.Lists.{getD-set-holds}
 use Rattle.machine.specs.State.{State, fresh, threadOf}
 use Rattle.machine.specs.Step.{waits, instructionOf, moveBy, outcome, after, step}
-use Rattle.machine.specs.Run.{Run, uncounted, countsOf, counted, countedFor, runFrom}
+use Rattle.machine.specs.Run.{Run, uncounted, countsOf, countedFor, runFrom}
 use Rattle.machine.specs.declared.counts.Counts.{Counts}
 use Rattle.machine.specs.declared.thread.Outcome.{Outcome}
 use Rattle.machine.specs.declared.thread.Outcome.the-variants.{Moved, Waiting, Idle}
 use Rattle.machine.specs.declared.thread.Thread.{Thread}
+use Rattle.machine.proofs.Sums.{count-kept}
 
 abbrev pub AtEnd : Program → State → ℕ → Type 0
 AtEnd p s t = threadOf s t .place ≡ length (codeOf p t)
 
 -- the idle count of thread t, after an entry of thread u
-idle-kept : (o : Outcome) (cs : List Counts) (u t : ℕ) → counted o (countsOf cs u) .idle ≡ countsOf cs u .idle
-    → countsOf (countedFor u o cs) t .idle ≡ countsOf cs t .idle
-unfolding countsOf countedFor
-idle-kept o cs u t e = getD-set-holds (λ v (c : Counts). c .idle ≡ getD cs v uncounted .idle) cs u _ uncounted e t refl
-
 not-idle : (o : Outcome) (cs : List Counts) (u t : ℕ) → (o ≡ Idle → t ≢ u) → countsOf (countedFor u o cs) t .idle ≡ countsOf cs t .idle
 unfolding countsOf countedFor
-not-idle Moved cs u t n = idle-kept Moved cs u t refl
-not-idle Waiting cs u t n = idle-kept Waiting cs u t refl
+not-idle Moved cs u t n = count-kept (λ (c : Counts). c .idle) Moved cs u t refl
+not-idle Waiting cs u t n = count-kept (λ (c : Counts). c .idle) Waiting cs u t refl
 not-idle Idle cs u t n = ap (λ (c : Counts). c .idle) (getD-set-other cs u t _ uncounted (n refl))
 
 module _ (p : Program) where

@@ -2,10 +2,11 @@
 --     counted-once    by its outcome
 --     entries-head, entries-tail
 --                     a list of entries that begins with one
+--     count-kept      a count that an entry does not change
 --     counted-named   one entry, by the thread that it names
 --     length-counted, length-counts
 --                     an entry and a run keep how many threads are counted
---     from-named, run-named
+--     from-named, uncounted-named, run-times-named
 --                     "A thread's three counts sum to how often the list names it"
 --     run-sum         "all together sum to the list's length"
 --     run-absent      "those of a thread that the file does not have are 0"
@@ -17,14 +18,15 @@ use native.Mathlib.Decide.{ℕ-discrete}
 use native.Mathlib.Omega.{arith}
 use borrow.Author.Tests.{eq-eqb, ne-eqb}
 use lib.Dec.{eqb}
-use lib.ListN.{length, getD, set, length-set}
+use lib.ListN.{length, getD, set, replicate, length-set}
 use lib.Seq.{getD-set-same, getD-set-other}
-use Rattle.program.proofs.Lists.{getD-replicate-same}
+use Rattle.program.proofs.Lists.{getD-replicate-same, getD-set-holds}
 use Rattle.program.specs.Choice.{choose}
 use Rattle.program.specs.Layout.{Program}
 use Rattle.program.specs.Limits.{threadLimit}
+use Rattle.machine.specs.State.{State, start}
 use Rattle.machine.specs.Step.{outcome}
-use Rattle.machine.specs.Run.{Entries, Run, uncounted, countsOf, counted, countedFor, runFrom, run, total, totals, timesNamed, AddsUp}
+use Rattle.machine.specs.Run.{Entries, Run, uncounted, countsOf, counted, countedFor, runFrom, run, total, sumOf, timesNamed, AddsUp}
 use Rattle.machine.specs.declared.counts.Counts.{Counts}
 use Rattle.machine.specs.declared.thread.Outcome.{Outcome}
 use Rattle.machine.specs.declared.thread.Outcome.the-variants.{Moved, Waiting, Idle}
@@ -49,6 +51,12 @@ pub length-counted : (t : ℕ) (o : Outcome) (cs : List Counts) → length (coun
 unfolding countedFor
 length-counted t o cs = length-set cs t _
 
+-- a count that an entry does not change
+pub count-kept : (kind : Counts → ℕ) (o : Outcome) (cs : List Counts) (u t : ℕ) → kind (counted o (countsOf cs u)) ≡ kind (countsOf cs u)
+    → kind (countsOf (countedFor u o cs) t) ≡ kind (countsOf cs t)
+unfolding countsOf countedFor
+count-kept kind o cs u t e = getD-set-holds (λ v (c : Counts). kind c ≡ kind (getD cs v uncounted)) cs u _ uncounted e t refl
+
 pub counted-named : (u : ℕ) (o : Outcome) (cs : List Counts) (t : ℕ) → t < length cs
     → total (countsOf (countedFor u o cs) t) ≡ total (countsOf cs t) + choose (eqb u t) 1 0
 unfolding countedFor countsOf
@@ -63,6 +71,10 @@ module _ (p : Program) where
   length-counts r [] = refl
   length-counts r (t ∷ ts) = length-counts _ ts ∙ length-counted t (outcome p t (r .state)) (r .counts)
 
+  length-run : (ts : List ℕ) → length (run p ts .counts) ≡ threadLimit
+  unfolding run
+  length-run ts = length-counts _ ts
+
   pub from-named : (r : Run) (ts : List ℕ) (t : ℕ) → t < length (r .counts)
       → total (countsOf (runFrom p r ts .counts) t) ≡ total (countsOf (r .counts) t) + timesNamed t ts
   unfolding runFrom timesNamed
@@ -73,29 +85,35 @@ module _ (p : Program) where
       ∙ ap (λ (n : ℕ). n + timesNamed t us) (counted-named u o (r .counts) t h)
       ∙ omega arith
 
-  pub run-named : (ts : List ℕ) (t : ℕ) → t < threadLimit → total (countsOf (run p ts .counts) t) ≡ timesNamed t ts
-  unfolding run countsOf total
-  run-named ts t h = from-named _ ts t h ∙ rw (getD-replicate-same threadLimit t uncounted) (omega arith)
+  -- from any state, with nothing counted
+  pub uncounted-named : (s : State) (ts : List ℕ) (t : ℕ) → t < threadLimit
+      → total (countsOf (runFrom p (record { counts = replicate threadLimit uncounted; state = s }) ts .counts) t) ≡ timesNamed t ts
+  unfolding countsOf total
+  uncounted-named s ts t h = from-named _ ts t h ∙ rw (getD-replicate-same threadLimit t uncounted) (omega arith)
+
+  pub run-times-named : (ts : List ℕ) (t : ℕ) → t < threadLimit → total (countsOf (run p ts .counts) t) ≡ timesNamed t ts
+  unfolding run
+  run-times-named ts t h = uncounted-named (start p) ts t h
 
 -- all together
-totals-set : (cs : List Counts) (t : ℕ) (c : Counts) → t < length cs → total c ≡ total (countsOf cs t) + 1 → totals (set cs t c) ≡ totals cs + 1
-unfolding totals countsOf
-totals-set [] t c h e = absurd (let z : ⊥ = omega arith in z)
-totals-set (d ∷ cs) zero c h e = omega (arith, e)
-totals-set (d ∷ cs) (suc t) c h e = let f = totals-set cs t c (omega arith) e in omega (arith, f)
+sum-set : (cs : List Counts) (t : ℕ) (c : Counts) → t < length cs → total c ≡ total (countsOf cs t) + 1 → sumOf total (set cs t c) ≡ sumOf total cs + 1
+unfolding sumOf countsOf
+sum-set [] t c h e = absurd (let z : ⊥ = omega arith in z)
+sum-set (d ∷ cs) zero c h e = omega (arith, e)
+sum-set (d ∷ cs) (suc t) c h e = let f = sum-set cs t c (omega arith) e in omega (arith, f)
 
 module _ (p : Program) where
-  from-sum : (r : Run) (ts : List ℕ) → Entries (length (r .counts)) ts → totals (runFrom p r ts .counts) ≡ totals (r .counts) + length ts
+  from-sum : (r : Run) (ts : List ℕ) → Entries (length (r .counts)) ts → sumOf total (runFrom p r ts .counts) ≡ sumOf total (r .counts) + length ts
   unfolding runFrom countedFor
   from-sum r [] h = omega arith
   from-sum r (t ∷ ts) h =
       let o = outcome p t (r .state) in
       from-sum _ ts (rw (length-counted t o (r .counts)) (entries-tail _ t ts h))
-      ∙ ap (λ (n : ℕ). n + length ts) (totals-set (r .counts) t _ (entries-head _ t ts h) (counted-once o (countsOf (r .counts) t)))
+      ∙ ap (λ (n : ℕ). n + length ts) (sum-set (r .counts) t _ (entries-head _ t ts h) (counted-once o (countsOf (r .counts) t)))
       ∙ omega arith
 
-  pub run-sum : (ts : List ℕ) → Entries threadLimit ts → totals (run p ts .counts) ≡ length ts
-  unfolding run totals total
+  pub run-sum : (ts : List ℕ) → Entries threadLimit ts → sumOf total (run p ts .counts) ≡ length ts
+  unfolding run sumOf total
   run-sum ts h = from-sum _ ts h ∙ omega arith
 
   pub from-absent : (r : Run) (ts : List ℕ) (n : ℕ) → Entries n ts → (t : ℕ) → n ≤ t → countsOf (runFrom p r ts .counts) t ≡ countsOf (r .counts) t
@@ -116,7 +134,8 @@ entries-wider m n ts h e i k = omega (arith, e i k)
 
 pub run-adds-up : (p : Program) (ts : List ℕ) → p .threads ≤ threadLimit → Entries (p .threads) ts → AddsUp p ts (run p ts .counts)
 run-adds-up p ts h e = record {
-  each = run-named p ts;
+  eight = length-run p ts;
+  each = run-times-named p ts;
   together = run-sum p ts (entries-wider (p .threads) threadLimit ts h e);
   absent = run-absent p ts (p .threads) e;
 }

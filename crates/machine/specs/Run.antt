@@ -54,14 +54,10 @@ run p ts = runFrom p (record { counts = replicate threadLimit uncounted; state =
 unfoldable pub total : Counts → ℕ
 total c = c .moved + c .waiting + c .idle
 
-unfoldable pub totals : List Counts → ℕ
-totals [] = 0
-totals (c ∷ cs) = total c + totals cs
-
--- the moves of all threads together
-unfoldable pub allMoved : List Counts → ℕ
-allMoved [] = 0
-allMoved (c ∷ cs) = c .moved + allMoved cs
+-- of all threads together, what is counted so of each
+unfoldable pub sumOf : (Counts → ℕ) → List Counts → ℕ
+sumOf kind [] = 0
+sumOf kind (c ∷ cs) = kind c + sumOf kind cs
 
 -- how often a list names thread t
 unfoldable pub timesNamed : ℕ → List ℕ → ℕ
@@ -70,6 +66,7 @@ timesNamed t (u ∷ us) = choose (eqb u t) 1 0 + timesNamed t us
 
 -- of the counts of a list that is run by a program
 pub record AddsUp (p : Program) (list : List ℕ) (cs : List Counts) : Type 0 where
+  pub eight : length cs ≡ threadLimit
   pub each : (t : ℕ) → t < threadLimit → total (countsOf cs t) ≡ timesNamed t list
-  pub together : totals cs ≡ length list
+  pub together : sumOf total cs ≡ length list
   pub absent : (t : ℕ) → p .threads ≤ t → countsOf cs t ≡ uncounted

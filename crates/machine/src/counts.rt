@@ -22,7 +22,7 @@ pub struct Counts {
 const PART: usize = 192;
 
 // 1 for the thread's number, 0 for others.
-fn hit(entry: u8, t: u8) -> u8
+fn names(entry: u8, t: u8) -> u8
     ensures { λ r. ⌜ r ≡ choose (eqb entry t) 1 0 ⌝ }
 {
     if entry == t { 1 } else { 0 }
@@ -36,14 +36,14 @@ fn part_names(part: &[u8], t: u8) -> u8
     let mut n: u8 = 0;
     let mut i: usize = 0;
     while i < part.len() {
-        n += hit(part[i], t);
+        n += names(part[i], t);
         i += 1;
     }
     n
 }
 
 // How often a list names a thread.
-pub fn times_named(list: &[u8], t: u8) -> usize
+fn times_named(list: &[u8], t: u8) -> usize
     ensures { λ r. ⌜ r ≡ timesNamed t (now (list .entry)) ⌝ }
 {
     let mut n: usize = 0;

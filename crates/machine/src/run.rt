@@ -41,8 +41,8 @@ ghost use Rattle.machine.specs.Internal.Kept.{Ended, Kept, stateIn, thre
 // After so many entries it is asked whether every thread is at its end.
 const PART: usize = 4096;
 
-// A thread's own part of a Move, where a READ finds `value`: its record is moved, and laid back into the arrays. Of the registers only
-// the one that the Move sets is stored, with the Move's own value: a store of all eight costs more than the rest of the move.
+// A thread's own part of a Move, where a READ finds `value`: its record is moved, and its place laid back into the arrays. Of the registers
+// only the one that the Move sets is stored, with the Move's own value: a store of all eight costs more than the rest of the move.
 fn move_at(
     m: Move,
     value: u32,

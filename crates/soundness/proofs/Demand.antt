@@ -7,7 +7,7 @@ use lib.ListN.{length}
 use Rattle.judge.specs.Acceptance.{Accepted, accept, sound}
 use Rattle.judge.specs.Judging.{judgeProgram}
 use Rattle.machine.proofs.Sums.{length-counts}
-use Rattle.machine.specs.Run.{countsOf, run, allMoved}
+use Rattle.machine.specs.Run.{countsOf, run, sumOf}
 use Rattle.machine.specs.declared.counts.Counts.{Counts}
 use Rattle.program.proofs.Sound.{sound-file}
 use Rattle.program.specs.Answer.{fine}
@@ -41,8 +41,8 @@ unfolding Demand3
 demand3 file a e list threads nobody = serialized (a .program) (accepted-annotated file a e) list threads nobody
 
 -- all threads together: "The number of moves of all threads together is then the same too"
-together : (cs ds : List Counts) → length cs ≡ length ds → ((t : ℕ) → countsOf cs t .moved ≡ countsOf ds t .moved) → allMoved cs ≡ allMoved ds
-unfolding allMoved countsOf
+together : (cs ds : List Counts) → length cs ≡ length ds → ((t : ℕ) → countsOf cs t .moved ≡ countsOf ds t .moved) → sumOf (λ (c : Counts). c .moved) cs ≡ sumOf (λ (c : Counts). c .moved) ds
+unfolding sumOf countsOf
 together [] [] e h = refl
 together [] (d ∷ ds) e h = absurd (let z : ⊥ = omega (arith, e) in z)
 together (c ∷ cs) [] e h = absurd (let z : ⊥ = omega (arith, e) in z)
@@ -50,6 +50,7 @@ together (c ∷ cs) (d ∷ ds) e h =
     let f = together cs ds (omega (arith, e)) (λ t. h (suc t)) in
     omega (arith, h 0, f)
 
-pub same-total : {p : Program} {list : List ℕ} (r : Serialized p list) → allMoved (run p (r .serial) .counts) ≡ allMoved (run p list .counts)
+pub same-total : {p : Program} {list : List ℕ} (r : Serialized p list)
+    → sumOf (λ (c : Counts). c .moved) (run p (r .serial) .counts) ≡ sumOf (λ (c : Counts). c .moved) (run p list .counts)
 unfolding run
 same-total {p} {list} r = together _ _ (length-counts p _ (r .serial) ∙ sym (length-counts p _ list)) (r .same-moved)

@@ -12,14 +12,14 @@ use mathlib.Core.Logic.{ite, dite}
 use mathlib.Core.List.{List, [], _∷_}
 use lib.ListN.{length, getD, replicate, List·getD-eq-default}
 use lib.Seq.{getD-set-same, getD-set-other}
-use Rattle.machine.proofs.Sums.{length-counted, length-counts}
+use Rattle.machine.proofs.Sums.{count-kept, length-counted, length-counts}
 use Rattle.machine.specs.Run.{Run, uncounted, countsOf, counted, countedFor, runFrom, run}
 use Rattle.machine.specs.declared.counts.Counts.{Counts}
 use Rattle.machine.specs.State.{State, start}
 use Rattle.machine.specs.Step.{outcome, after, step}
 use Rattle.machine.specs.declared.thread.Outcome.{Outcome}
 use Rattle.machine.specs.declared.thread.Outcome.the-variants.{Moved, Waiting, Idle}
-use Rattle.program.proofs.Lists.{getD-replicate-same, getD-set-holds}
+use Rattle.program.proofs.Lists.{getD-replicate-same}
 use Rattle.program.specs.Layout.{Program}
 use Rattle.program.specs.Limits.{threadLimit}
 use Rattle.soundness.specs.Naming.{Move, Named, namedStart, moveOf, moved, movedNamed, stepNamed, movesFrom, moves, movesOf}
@@ -55,11 +55,6 @@ counted-move (yes e) m l same other = omega (arith, same e)
 counted-move (no e) m l same other = omega (arith, other e)
 
 module _ (cs : List Counts) (u t : ℕ) (h : t < length cs) (g : Named) (l : List Move) where
-  -- an entry that does not move changes no moved count
-  kept-moved : (o : Outcome) → counted o (countsOf cs u) .moved ≡ countsOf cs u .moved → countsOf (countedFor u o cs) t .moved ≡ countsOf cs t .moved
-  unfolding countsOf countedFor
-  kept-moved o e = getD-set-holds (λ v (c : Counts). c .moved ≡ getD cs v uncounted .moved) cs u _ uncounted e t refl
-
   counted-also : (o : Outcome)
       → countsOf (countedFor u o cs) t .moved + length (movesOf t l) ≡ countsOf cs t .moved + length (movesOf t (after o l (moveOf g u ∷ l)))
   unfolding countsOf countedFor moveOf
@@ -67,8 +62,8 @@ module _ (cs : List Counts) (u t : ℕ) (h : t < length cs) (g : Named) (l : Lis
       counted-move (ℕ-discrete u t) (moveOf g u) (movesOf t l)
       (λ e. rw (e, getD-set-same cs t (counted Moved (getD cs t uncounted)) uncounted h))
       (λ n. rw (getD-set-other cs u t (counted Moved (getD cs u uncounted)) uncounted (λ e. n (sym e))))
-  counted-also Waiting = ap (λ (n : ℕ). n + length (movesOf t l)) (kept-moved Waiting refl)
-  counted-also Idle = ap (λ (n : ℕ). n + length (movesOf t l)) (kept-moved Idle refl)
+  counted-also Waiting = ap (λ (n : ℕ). n + length (movesOf t l)) (count-kept (λ (c : Counts). c .moved) Waiting cs u t refl)
+  counted-also Idle = ap (λ (n : ℕ). n + length (movesOf t l)) (count-kept (λ (c : Counts). c .moved) Idle cs u t refl)
 
 pub run-moved : (p : Program) (ts : List ℕ) (g : Named) (cs : List Counts) (t : ℕ) → t < length cs
     → countsOf (runFrom p (counting cs (g .machine)) ts .counts) t .moved ≡ countsOf cs t .moved + length (movesOf t (movesFrom p g ts))

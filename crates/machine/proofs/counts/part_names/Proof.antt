@@ -21,19 +21,19 @@ loop-holds : tie.Need-loop-holds Inv-loop μ-loop
 unfolding timesNamed
 loop-holds c = (omega arith, omega arith, refl)
 
--- `hit(part[i], t)`
-shared-slice-read-hit : tie.Need-shared-slice-read-hit Inv-loop μ-loop
-shared-slice-read-hit c = search needs
+-- `names(part[i], t)`
+shared-slice-read-names : tie.Need-shared-slice-read-names Inv-loop μ-loop
+shared-slice-read-names c = search needs
 
-hit-requires : tie.Need-hit-requires Inv-loop μ-loop
-hit-requires c κs = search needs
+names-requires : tie.Need-names-requires Inv-loop μ-loop
+names-requires c κs = search needs
 
--- `n += hit(part[i], t)`
+-- `n += names(part[i], t)`
 add-n : tie.Need-add-n Inv-loop μ-loop
 add-n c =
     let a = c .before .before .before .before .before .args in
     let h = one-at-most (eqb (getD (a .part .now) (c .before .before .before .loop .i) 0) (a .t)) in
-    omega (arith, h, c .hit .ensures, c .before .before .before .loop .inv .1)
+    omega (arith, h, c .names .ensures, c .before .before .before .loop .inv .1)
 
 -- `i += 1`
 add-i : tie.Need-add-i Inv-loop μ-loop
@@ -48,7 +48,7 @@ loop-again c =
     let a = c .before .before .before .before .before .args in
     let e = names-next (a .t) (a .part .now) (o .i) (c .before .before .loop-test .taken) in
     let h = one-at-most (eqb (getD (a .part .now) (o .i) 0) (a .t)) in
-    (omega arith, omega (arith, h, c .hit .ensures, o .inv .1), omega (arith, e, o .inv .2, c .hit .ensures))
+    (omega arith, omega (arith, h, c .names .ensures, o .inv .1), omega (arith, e, o .inv .2, c .names .ensures))
 
 returns : tie.Need-returns Inv-loop μ-loop
 returns c =
@@ -62,8 +62,8 @@ part-names-spec =
     Inv-loop
     μ-loop
     loop-holds
-    shared-slice-read-hit
-    hit-requires
+    shared-slice-read-names
+    names-requires
     add-n
     add-i
     loop-less
