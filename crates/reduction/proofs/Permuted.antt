@@ -3,15 +3,13 @@
 --     swap-behind      a move gets behind others
 --     permuted-all     a property of each move is preserved
 --     permuted-order   so is the blocks' order
---     permuted-total   ... the sum of weights
 --     permuted-moves   ... each thread's moves
-use Prim.Native.Nat.{ℕ, _+_}
-use native.Mathlib.Nat.{add-left-comm}
+use Prim.Native.Nat.{ℕ}
 use native.Mathlib.Decide.{ℕ-discrete}
 use mathlib.Core.Path.{_≡_, refl, sym, ap, _∙_}
 use mathlib.Core.Logic.{_≢_, ite}
 use mathlib.Core.List.{List, [], _∷_, _++_}
-use Rattle.reduction.specs.Sequence.{All, all-nil, all-cons, pairs-cons, total}
+use Rattle.reduction.specs.Sequence.{All, all-nil, all-cons, pairs-cons}
 use Rattle.reduction.specs.Moves.{Moves}
 use Rattle.reduction.specs.Reduction.{movesOf, Ordered}
 use Rattle.reduction.specs.Serial.{Permuted, unswapped, swap, prep, trans}
@@ -52,13 +50,6 @@ module _ (M : Moves) {R : M .Block → M .Block → Type 0} where
   permuted-order (swap n r) (pairs-cons (all-cons p a) (pairs-cons b h)) = pairs-cons (all-cons r b) (pairs-cons a h)
   permuted-order (prep s) (pairs-cons a h) = pairs-cons (permuted-all s a) (permuted-order s h)
   permuted-order (trans s t) h = permuted-order t (permuted-order s h)
-
-  pub permuted-total : (f : Move → ℕ) {l k : List Move} → Permuted M R l k → total f k ≡ total f l
-  unfolding total
-  permuted-total f unswapped = refl
-  permuted-total f (swap {x} {y} {l} n r) = add-left-comm (f y) (f x) (total f l)
-  permuted-total f (prep {x} s) = ap (λ n. f x + n) (permuted-total f s)
-  permuted-total f (trans s t) = permuted-total f t ∙ permuted-total f s
 
   pub permuted-moves : (t : ℕ) {l k : List Move} → Permuted M R l k → movesOf M t k ≡ movesOf M t l
   permuted-moves t unswapped = refl

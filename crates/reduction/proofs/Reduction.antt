@@ -1,16 +1,13 @@
 -- The reduction theorem, and what an instance reads off it. Assumes nothing.
---     reduction                a trace that begins and ends with everybody outside can be made uninterrupted
---     uninterrupted-trace      an uninterrupted trace is a trace
---     same-length, same-count  as many moves, in all and of each thread
---     same-precedence          a block that is over when another begins still is
-use Prim.Native.Nat.{ℕ}
-use mathlib.Core.Path.{_≡_, sym, ap, _∙_}
+--     reduction             a trace that begins and ends with everybody outside can be made uninterrupted
+--     uninterrupted-trace   an uninterrupted trace is a trace
+--     same-precedence       a block that is over when another begins still is
+use mathlib.Core.Path.{_≡_}
 use mathlib.Core.List.{List}
-use lib.ListN.{length}
 use Rattle.reduction.specs.Moves.{Moves, Movers}
-use Rattle.reduction.specs.Reduction.{Trace, trace-nil, trace-cons, Quiescent, Uninterrupted, alone-nil, alone-cons, movesOf, Precedes, Reduced}
-use Rattle.reduction.proofs.Sequence.{pairs-of, total-one}
-use Rattle.reduction.proofs.Permuted.{permuted-order, permuted-total, permuted-moves}
+use Rattle.reduction.specs.Reduction.{Trace, trace-nil, trace-cons, Quiescent, Uninterrupted, alone-nil, alone-cons, Precedes, Reduced}
+use Rattle.reduction.proofs.Sequence.{pairs-of}
+use Rattle.reduction.proofs.Permuted.{permuted-order, permuted-moves}
 use Rattle.reduction.proofs.Serial.{serialize, serial-uninterrupted}
 
 module _ (M : Moves) where
@@ -25,7 +22,6 @@ module _ (M : Moves) where
         moves = k;
         uninterrupted = serial-uninterrupted M L q first;
         same-moves = λ t. permuted-moves M t p;
-        same-total = λ g. permuted-total M g p;
         same-order = λ R a. permuted-order M (f R a) a;
       }
 
@@ -35,14 +31,6 @@ module _ (M : Moves) where
   uninterrupted-trace (alone-cons a h r) = trace-cons h (uninterrupted-trace r)
 
   module _ {s v : State} {l : List Move} (r : Reduced M s l v) where
-    -- the number of moves is the same
-    pub same-length : length (r .moves) ≡ length l
-    same-length = sym (total-one (r .moves)) ∙ r .same-total (λ m. 1) ∙ total-one l
-
-    -- and so is each thread's
-    pub same-count : (t : ℕ) → length (movesOf M t (r .moves)) ≡ length (movesOf M t l)
-    same-count t = ap length (r .same-moves t)
-
     -- a block that is over when another begins still is
     pub same-precedence : (a b : Block) → Precedes M a b l → Precedes M a b (r .moves)
     same-precedence a b = r .same-order (λ x y. ¬ ((x ≡ b) × (y ≡ a)))

@@ -1,15 +1,11 @@
--- Laws of `All`, `AllPairs` and `total`. Assumes nothing.
+-- Laws of `All` and `AllPairs`. Assumes nothing.
 --     all-head, pairs-head        at the head: the first has it; the first is related to all behind it
 --     all-append                  both parts have it, so the whole does
 --     all-behind, pairs-behind    the part behind
 --     all-before, pairs-before    the part before
 --     all-of, pairs-of            where everything has it, or is related
---     total-one                   at the weight 1 the total is the length
-use native.Mathlib.Omega.{arith}
-use mathlib.Core.Path.{_≡_, refl}
 use mathlib.Core.List.{List, [], _∷_, _++_}
-use lib.ListN.{length}
-use Rattle.reduction.specs.Sequence.{All, all-nil, all-cons, AllPairs, pairs-nil, pairs-cons, total}
+use Rattle.reduction.specs.Sequence.{All, all-nil, all-cons, AllPairs, pairs-nil, pairs-cons}
 
 module _ {A : Type 0} where
   -- ---- the head
@@ -56,10 +52,3 @@ module _ {A : Type 0} where
   pub pairs-of : {R : A → A → Type 0} (l : List A) → ((x y : A) → R x y) → AllPairs R l
   pairs-of [] f = pairs-nil
   pairs-of (x ∷ l) f = pairs-cons (all-of l (f x)) (pairs-of l f)
-
-  -- ---- the weight 1
-
-  pub total-one : (l : List A) → total (λ x. 1) l ≡ length l
-  unfolding total
-  total-one [] = refl
-  total-one (x ∷ l) = omega (arith, total-one l)

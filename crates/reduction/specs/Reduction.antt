@@ -5,7 +5,7 @@ use native.Mathlib.Decide.{ℕ-discrete}
 use mathlib.Core.Path.{_≡_}
 use mathlib.Core.Logic.{_≢_}
 use mathlib.Core.List.{List, [], _∷_, filter}
-use Rattle.reduction.specs.Sequence.{AllPairs, total}
+use Rattle.reduction.specs.Sequence.{AllPairs}
 use Rattle.reduction.specs.Moves.{Moves, outside}
 
 module _ (M : Moves) where
@@ -47,7 +47,5 @@ module _ (M : Moves) where
     pub uninterrupted : Uninterrupted s moves v
     -- each thread makes the same moves in the same order
     pub same-moves : (t : ℕ) → movesOf t moves ≡ movesOf t l
-    -- every weight adds up to the same
-    pub same-total : (f : Move → ℕ) → total f moves ≡ total f l
     -- what holds of each earlier and later block still does
     pub same-order : (R : Block → Block → Type 0) → Ordered R l → Ordered R moves

@@ -1,5 +1,4 @@
--- What is said of a list: a property of each element, a relation of each element to each later one, a sum of weights.
-use Prim.Native.Nat.{ℕ, _+_}
+-- What is said of a list: a property of each element, a relation of each element to each later one.
 use mathlib.Core.List.{List, [], _∷_}
 
 module _ {A : Type 0} where
@@ -12,8 +11,3 @@ module _ {A : Type 0} where
   pub data AllPairs (R : A → A → Type 0) : List A → Type 0 where
     pairs-nil : AllPairs R []
     pairs-cons : {x : A} {l : List A} → All (R x) l → AllPairs R l → AllPairs R (x ∷ l)
-
-  -- the weights of the elements, added up
-  unfoldable pub total : (A → ℕ) → List A → ℕ
-  total f [] = 0
-  total f (x ∷ l) = f x + total f l

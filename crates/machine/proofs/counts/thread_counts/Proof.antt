@@ -5,7 +5,7 @@ use Rattle.machine.proofs.Names.{names-at-most}
 use Rattle.machine.proofs.counts.thread_counts.Statement.{statement}
 use Rattle.machine.proofs.counts.thread_counts.Tie as tie
 
--- `let left = idle_of(list, t, moved + waiting as usize, idle)`
+-- `let left = idle_of(list, t, moved + waiting as usize, ended)`
 add-idle-of : tie.Need-add-idle-of
 add-idle-of c = let a = c .before .args in omega (arith, c .before .pre .1 .0, names-at-most (a .t) (a .list .now))
 
