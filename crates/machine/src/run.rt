@@ -137,41 +137,25 @@ fn step(
 {
     let at = t as usize;
     let place = places[at];
-    // A thread is never past its end. The compiler takes an equality for the likelier case, and would make the moves slower.
-    if counts[at] <= place {
+    if place == counts[at] {
         return Outcome::Idle;
     }
     let i = instruction_at(rows, s, starts[at] + INSTRUCTION_SIZE * place);
     move_by(i, t, variables, locks, places, registers)
 }
 
-// Whether each of eight threads is at its end, as one is that the file does not have. No loop: of two loops, one within the other, the
-// compiler takes the inner one for the busier, and makes the moves slower.
+// Whether each of eight threads is at its end, as one is that the file does not have.
 fn all_ended(counts: &[usize; CODE_LIMIT], places: &[usize; THREAD_LIMIT]) -> bool
     ensures { λ r. ⌜ (r ≡ true → Ended (now (counts .entry)) (now (places .entry))) ⌝ }
 {
-    if places[0] != counts[0] {
-        return false;
+    let mut t: usize = 0;
+    while t < THREAD_LIMIT {
+        if places[t] != counts[t] {
+            return false;
+        }
+        t += 1;
     }
-    if places[1] != counts[1] {
-        return false;
-    }
-    if places[2] != counts[2] {
-        return false;
-    }
-    if places[3] != counts[3] {
-        return false;
-    }
-    if places[4] != counts[4] {
-        return false;
-    }
-    if places[5] != counts[5] {
-        return false;
-    }
-    if places[6] != counts[6] {
-        return false;
-    }
-    places[7] == counts[7]
+    true
 }
 
 // Part of a list, one entry after the other: how often each thread moved and waited is added to what it did in the `before` entries before.

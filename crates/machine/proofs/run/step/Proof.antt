@@ -1,6 +1,6 @@
 -- `step` meets its contract: the code's end, or the instruction at the thread's place. Assumes nothing.
 use Prim.Native.Nat.{ℕ, _+_, _*_, _≤_, _<_}
-use mathlib.Core.Path.{_≡_, ap, _∙_}
+use mathlib.Core.Path.{_≡_, sym, ap, _∙_}
 use mathlib.Core.List.{List, []}
 use native.Mathlib.Omega.{arith}
 use borrow.Author.Needs.{needs}
@@ -41,14 +41,14 @@ module _ (c : tie.Start) where
 -- where the thread is not at its code's end, it is at an instruction
 at-instruction : (c : tie.Else1)
     → let b = c .before .before .before .before .before in getD (b .args .places .now) (t b) 0 < getD (b .args .counts .now) (t b) 0
-at-instruction c = omega (arith, c .if1 .left)
+at-instruction c = omega (arith, in-code (c .before .before .before .before .before), c .if1 .left)
 
 module _ (c : tie.After-instruction-at) where
   abbrev start : tie.Start
   start = c .before .before .before .before .before .before .before
 
   not-at-end : getD (ths start) (t start) nobody .place ≡ getD (start .args .counts .now) (t start) 0 → ⊥
-  not-at-end e = let z : ⊥ = omega (arith, at-instruction (c .before .before), place start, e) in z
+  not-at-end e = c .before .before .if1 .left (sym (place start) ∙ e)
 
   -- a sound file's instruction is valid, so it is the one read
   read : (c .instruction-at .result
@@ -65,7 +65,7 @@ mul-place c = search needs
 element-copy-out-place : tie.Need-element-copy-out-place
 element-copy-out-place c = search needs
 
--- `if counts[at] <= place`
+-- `if place == counts[at]`
 mul-if1 : tie.Need-mul-if1
 mul-if1 c = search needs
 
@@ -76,8 +76,7 @@ element-copy-out-if1 c = search needs
 returns : tie.Need-returns
 returns c =
     let b = c .before .before .before .before .before in
-    let at-end : getD (b .args .places .now) (t b) 0 ≡ getD (b .args .counts .now) (t b) 0 = omega (arith, in-code b, c .if1 .taken) in
-    let x = step-idle (b .pre .1) (b .pre .3) (t b) (b .pre .2) (place b ∙ at-end) in
+    let x = step-idle (b .pre .1) (b .pre .3) (t b) (b .pre .2) (place b ∙ c .if1 .taken) in
     (x .0, (x .1, b .pre .3))
 
 -- `let i = instruction_at(rows, s, starts[at] + INSTRUCTION_SIZE * place)`
