@@ -1,14 +1,14 @@
 -- The rule for open variables and the earlier one (`specs/Internal/Earlier.antt`). Assumes nothing.
 --     before-access    beside a writer of every variable, each access is what it was by the earlier rule
---     still-typed      what the rules derived, they derive, with an atomicity at or below
---     still-accepted   no file that was accepted is refused now
+--     still-typed      what the rules derived, they derive without the statements, with an atomicity at or below
+--     still-accepted   no file that was accepted is refused now. Such a file has no statements: with one it was refused (7)
 use Prim.Native.Nat.{ℕ, zero, suc, _<_}
 use native.Mathlib.Decide.{ℕ-discrete}
 use native.Mathlib.Omega.{arith}
 use borrow.Author.Tests.{eq-eqb, ne-eqb}
-use mathlib.Core.Path.{_≡_, refl, sym, ap, _∙_}
+use mathlib.Core.Path.{_≡_, refl, sym, ap, _∙_, subst}
 use mathlib.Core.Bool.{Bool, true, false}
-use mathlib.Core.List.{List, []}
+use mathlib.Core.List.{List, [], _∷_, map}
 use lib.Dec.{T}
 use lib.ListN.{length, List·getD-append}
 use lib.Seq.{getD-append-seam}
@@ -16,24 +16,31 @@ use Rattle.atomicity.proofs.Laws.{then-mono, order-refl, both-least, not-top-be
 use Rattle.atomicity.specs.Atomicity.{composition, join, closure, atMost}
 use Rattle.atomicity.specs.declared.Atomicity.{Atomicity}
 use Rattle.atomicity.specs.declared.Atomicity.the-variants as atomicity
+use Rattle.program.proofs.Answer.{fine-inj}
 use Rattle.program.proofs.Differ.{differ}
+use Rattle.program.proofs.Unstated.{structured-unstated}
 use Rattle.program.proofs.Writers.{written-by, writer-found}
 use Rattle.program.specs.Answer.{fine}
 use Rattle.program.specs.Code.{Code}
 use Rattle.program.specs.Layout.{Program, CodeSection, codeOf}
+use Rattle.program.specs.Unstated.{withoutStatements}
 use Rattle.program.specs.View.{Access, none, reads, writes, takes, gives, accessOf}
 use Rattle.program.specs.Writers.{hasWrite, writtenByOther}
+use Rattle.program.specs.Internal.Unstated.{unstatedCode, unstatedSection, unstatedProgram}
 use Rattle.program.specs.declared.instruction.Instruction.{Instruction}
 use Rattle.program.specs.declared.variable.Kind.{Kind}
 use Rattle.program.specs.declared.variable.Kind.the-variants.{Guarded, Own, Fixed, Open}
 use Rattle.judge.specs.Acceptance.{sound, accept}
 use Rattle.judge.specs.Discipline.{kindAt, accessedSet, mayRace, kindAtomicity, accessAtomicity, accessMover, moverOf, atomicityOf}
-use Rattle.judge.specs.Rules.{Legal, Typed, typed-done, typed-plain, typed-choice, typed-loop, typed-block, TypedCodes, typed-none, typed-code}
+use Rattle.judge.specs.Rules.{Legal, states-nothing, Typed, typed-done, typed-plain, typed-choice, typed-loop, typed-block, TypedCodes, typed-none, typed-code}
+use Rattle.judge.specs.LockSet.{empty}
 use Rattle.judge.specs.Internal.Earlier.{writesBelow, withWriter, judgeBefore}
+use Rattle.judge.specs.Internal.Nested.{Nested}
 use Rattle.judge.specs.declared.lock_set.LockSet.{LockSet}
 use Rattle.judge.proofs.Legal.{judged-legal, legal-judged}
 use Rattle.judge.proofs.RulesFile.{sound-codes-nested, accepted-exactly}
 use Rattle.judge.proofs.RulesProgram.{judged-codes-typed}
+use Rattle.judge.proofs.Unstated.{sound-unstated}
 
 -- ---- the writer of every variable
 
@@ -121,7 +128,8 @@ module _ (p : Program) where
   abbrev Still : (c : ℕ) → LockSet → Code → LockSet → Atomicity → Type 0
   Still c s x s′ a = (b : Atomicity) × T (atMost b a) × Typed p c s x s′ b
 
-  pub still-typed : {c : ℕ} {s s′ : LockSet} {x : Code} {a : Atomicity} → Typed (withWriter p) c s x s′ a → Still c s x s′ a
+  pub still-typed : {c : ℕ} {s s′ : LockSet} {x : Code} {a : Atomicity} → Typed (withWriter p) c s x s′ a → Still c s (unstatedCode x) s′ a
+  unfolding unstatedCode
   still-typed typed-done = (atomicity.Both, order-refl atomicity.Both, typed-done)
   still-typed {c} (typed-plain {i} {s = s} {s′ = s′} {a = a} f l d) =
       let (b, h, e) = still-typed d in (
@@ -138,20 +146,25 @@ module _ (p : Program) where
       let (b₁, h₁, e₁) = still-typed d₁ in
       let (b, h, e) = still-typed d in
       (composition (closure b₁) b, then-mono (closure b₁) (closure x) b z (closure-mono b₁ x h₁) h, typed-loop e₁ e)
-  still-typed (typed-block {x = x} {z = z} d₁ n d) =
+  still-typed (typed-block {x = x} {z = z} d₁ n stated d) =
       let (b₁, h₁, e₁) = still-typed d₁ in
       let (b, h, e) = still-typed d in
-      (composition b₁ b, then-mono b₁ x b z h₁ h, typed-block e₁ (not-top-below b₁ x h₁ n) e)
+      (composition b₁ b, then-mono b₁ x b z h₁ h, typed-block e₁ (not-top-below b₁ x h₁ n) states-nothing e)
 
-  still-typed-codes : {c : ℕ} {xs : List CodeSection} → TypedCodes (withWriter p) c xs → TypedCodes p c xs
-  still-typed-codes typed-none = typed-none
-  still-typed-codes (typed-code w d) =
+  still-typed-codes : {c : ℕ} (xs : List CodeSection) → Nested xs → TypedCodes (withWriter p) c xs → TypedCodes p c (map unstatedSection xs)
+  unfolding Nested
+  still-typed-codes [] nested typed-none = typed-none
+  still-typed-codes {c} (x ∷ xs) nested (typed-code w d) =
       let (b, h, e) = still-typed (w .typed) in
-      typed-code (record { atomicity = b; typed = e }) (still-typed-codes d)
+      let here = subst (λ (y : Code). Typed p c empty y empty b) (sym (structured-unstated (x .code) (nested .0))) e in
+      typed-code (record { atomicity = b; typed = here }) (still-typed-codes xs (nested .1) d)
 
--- a sound file that the earlier rule accepts
-pub still-accepted : (s : List ℕ) (p : Program) → sound s ≡ fine p → {before : List ℕ} → judgeBefore p ≡ fine before
+-- a sound file without statements, which the version of the earlier rule did not know, that the earlier rule accepts
+pub still-accepted : (s : List ℕ) (p : Program) → sound s ≡ fine p → withoutStatements s ≡ s → {before : List ℕ} → judgeBefore p ≡ fine before
     → (report : List ℕ) × (accept s ≡ fine (record { program = p; report = report }))
-unfolding judgeBefore
-still-accepted s p e before =
-    accepted-exactly s p e .1 (still-typed-codes p (judged-codes-typed (withWriter p) 0 (p .codes) (sound-codes-nested s e) before))
+unfolding judgeBefore unstatedProgram
+still-accepted s p e silent before =
+    let bare : unstatedProgram p ≡ p = fine-inj _ p (sym (sound-unstated s p e) ∙ (ap sound silent ∙ e)) in
+    let nested = sound-codes-nested s e in
+    let typed = still-typed-codes p (p .codes) nested (judged-codes-typed (withWriter p) 0 (p .codes) nested before) in
+    accepted-exactly s p e .1 (subst (λ (q : Program). TypedCodes p 0 (q .codes)) bare typed)

@@ -13,7 +13,7 @@ use Rattle.atomicity.specs.Atomicity.{reportByte, composition}
 use Rattle.atomicity.specs.declared.Atomicity.{Atomicity}
 use Rattle.atomicity.specs.declared.Atomicity.the-variants as atomicity
 use Rattle.atomicity.proofs.Laws.{then-both}
-use Rattle.program.specs.View.{Access, none, reads, writes, takes, gives, accessOf, formOf, Form, Plain}
+use Rattle.program.specs.View.{Access, none, reads, writes, takes, gives, accessOf, formOf, statementOf, Form, Plain}
 use Rattle.program.specs.Answer.{fine, _>>=_, require}
 use Rattle.program.specs.Choice.{choose}
 use Rattle.program.specs.Layout.{Program}
@@ -146,42 +146,42 @@ module _ (p : Program) (c d : ℕ) (s : LockSet) (k : ℕ) where
       neither false q = differ cc
   access-gives (gives j) e = let h = given-which j (holds s j) _ e in (ap gives (h .0), subst (λ (m : ℕ). holds s m ≡ true) (h .0) (h .1))
 
-  form-takes : (f : Form) (x : Access) → formEffect f (accessEffect p c d x s) ≡ effect.Takes k → (x ≡ takes k) × (holds s k ≡ false)
+  form-takes : (f : Form) (stated : ℕ) (x : Access) → formEffect f stated (accessEffect p c d x s) ≡ effect.Takes k → (x ≡ takes k) × (holds s k ≡ false)
   unfolding formEffect
-  form-takes Plain x e = access-takes x e
-  form-takes (form.If a n) x e = differ cc
-  form-takes (form.Else n) x e = differ cc
-  form-takes (form.While a n) x e = differ cc
-  form-takes (form.Again n) x e = differ cc
-  form-takes (form.Atomic n) x e = differ cc
-  form-takes form.End x e = differ cc
+  form-takes Plain stated x e = access-takes x e
+  form-takes (form.If a n) stated x e = differ cc
+  form-takes (form.Else n) stated x e = differ cc
+  form-takes (form.While a n) stated x e = differ cc
+  form-takes (form.Again n) stated x e = differ cc
+  form-takes (form.Atomic n) stated x e = differ cc
+  form-takes form.End stated x e = differ cc
 
-  form-gives : (f : Form) (x : Access) → formEffect f (accessEffect p c d x s) ≡ effect.Gives k → (x ≡ gives k) × (holds s k ≡ true)
+  form-gives : (f : Form) (stated : ℕ) (x : Access) → formEffect f stated (accessEffect p c d x s) ≡ effect.Gives k → (x ≡ gives k) × (holds s k ≡ true)
   unfolding formEffect
-  form-gives Plain x e = access-gives x e
-  form-gives (form.If a n) x e = differ cc
-  form-gives (form.Else n) x e = differ cc
-  form-gives (form.While a n) x e = differ cc
-  form-gives (form.Again n) x e = differ cc
-  form-gives (form.Atomic n) x e = differ cc
-  form-gives form.End x e = differ cc
+  form-gives Plain stated x e = access-gives x e
+  form-gives (form.If a n) stated x e = differ cc
+  form-gives (form.Else n) stated x e = differ cc
+  form-gives (form.While a n) stated x e = differ cc
+  form-gives (form.Again n) stated x e = differ cc
+  form-gives (form.Atomic n) stated x e = differ cc
+  form-gives form.End stated x e = differ cc
 
   pub takes-from : (i : Instruction) → effectOf p c d i s ≡ effect.Takes k → (accessOf i ≡ takes k) × (holds s k ≡ false)
   unfolding effectOf
-  takes-from i e = form-takes (formOf i) (accessOf i) e
+  takes-from i e = form-takes (formOf i) (statementOf i) (accessOf i) e
 
   pub gives-from : (i : Instruction) → effectOf p c d i s ≡ effect.Gives k → (accessOf i ≡ gives k) × (holds s k ≡ true)
   unfolding effectOf
-  gives-from i e = form-gives (formOf i) (accessOf i) e
+  gives-from i e = form-gives (formOf i) (statementOf i) (accessOf i) e
 
 -- ---- nesting after an instruction, by its effect
 
--- the part that an entry opens
-abbrev pub partOf : Entry → Part
-partOf (entry.Then w) = part.Then
-partOf (entry.Else w) = part.Else
-partOf (entry.Loop w n) = part.Body
-partOf (entry.Block w) = part.Block
+-- a part that an entry opens; a block's, whatever its ATOMIC states
+pub data PartOf : Entry → Part → Type 0 where
+  of-then : {w : ℕ} → PartOf (entry.Then w) part.Then
+  of-else : {w : ℕ} → PartOf (entry.Else w) part.Else
+  of-loop : {w n : ℕ} → PartOf (entry.Loop w n) part.Body
+  of-block : {w stated : ℕ} → PartOf (entry.Block w) (part.Block stated)
 
 module _ (q : ℕ) (is : List Instruction) where
   -- after the closer of entry e, with the entries es below it: an ELSE opens another, any other closer none
@@ -196,7 +196,7 @@ module _ (q : ℕ) (is : List Instruction) where
   StepOf es effect.Single = Passing.Passes (suc q) is es
   StepOf es (effect.Takes k) = Passing.Passes (suc q) is es
   StepOf es (effect.Gives k) = Passing.Passes (suc q) is es
-  StepOf es (effect.Opens x) = (e : Entry) × (length es < entryLimit) × (x ≡ partOf e) × Passing.Passes (suc q) is (e ∷ es)
+  StepOf es (effect.Opens x) = (e : Entry) × (length es < entryLimit) × PartOf e x × Passing.Passes (suc q) is (e ∷ es)
   StepOf es effect.Closes = (e : Entry) × (below : List Entry) × (es ≡ e ∷ below) × AfterCloser e below
   StepOf es (effect.Refused r) = Unit
 
@@ -224,7 +224,7 @@ module _ (q : ℕ) (is : List Instruction) where
 
   module _ (p : Program) (c d : ℕ) (s : LockSet) where
     closes-step : (i : Instruction) (es : List Entry) → Passing.Closes q (i ∷ is) es → StepOf es (effectOf p c d i s)
-    unfolding effectOf formEffect formOf
+    unfolding effectOf formEffect formOf statementOf
     closes-step _ _ (Passing.at-else {n = n} {w = w} {es = es} e h) =
         (entry.Then w, es, refl, (w + n, subst (λ (x : ℕ). Passing.Passes (suc x) is (entry.Else (w + n) ∷ es)) e h))
     closes-step _ _ (Passing.at-again {n = n} {w = w} {es = es} e h) = (entry.Loop w n, es, refl, subst (λ (x : ℕ). Passing.Passes (suc x) is es) e h)
@@ -232,12 +232,12 @@ module _ (q : ℕ) (is : List Instruction) where
     closes-step _ _ (Passing.at-block-end {w = w} {es = es} e h) = (entry.Block w, es, refl, subst (λ (x : ℕ). Passing.Passes (suc x) is es) e h)
 
     came-step : (i : Instruction) (es : List Entry) → Passing.ComesTo q (i ∷ is) es → StepOf es (effectOf p c d i s)
-    unfolding effectOf formEffect formOf
+    unfolding effectOf formEffect formOf statementOf
     came-step i es (Passing.closes k) = closes-step i es k
     came-step i es (Passing.at-plain f h) = subst (StepOf es) (sym (plain-effect p c d i s f)) (access-step es h p c d s (accessOf i))
-    came-step _ es (Passing.at-if {n = n} few h) = (entry.Then (q + n), few, refl, h)
-    came-step _ es (Passing.at-while {n = n} few h) = (entry.Loop (q + n) n, few, refl, h)
-    came-step _ es (Passing.at-atomic {n = n} few h) = (entry.Block (q + n), few, refl, h)
+    came-step _ es (Passing.at-if {n = n} few h) = (entry.Then (q + n), few, of-then, h)
+    came-step _ es (Passing.at-while {n = n} few h) = (entry.Loop (q + n) n, few, of-loop, h)
+    came-step _ es (Passing.at-atomic {n = n} few h) = (entry.Block (q + n), few, of-block, h)
 
     pub step-of : (i : Instruction) (es : List Entry) → Passing.Passes q (i ∷ is) es → StepOf es (effectOf p c d i s)
     step-of i es h = came-step i es (comes-to q (i ∷ is) es h)

@@ -15,6 +15,7 @@
 --     Legal           the lock discipline of judging is that of the rules
 --     Rules, RulesProgram, RulesFile
 --                     judging code, a program and a file is deriving by the rules
+--     Unstated        judging a program with its statements taken out
 --     Earlier         what the earlier rule for open variables accepted is accepted
 pub mod Definitions
 pub mod LockSets
@@ -33,4 +34,5 @@ pub mod Legal
 pub mod Rules
 pub mod RulesProgram
 pub mod RulesFile
+pub mod Unstated
 pub mod Earlier

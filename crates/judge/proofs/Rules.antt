@@ -1,5 +1,6 @@
 -- Judging code is deriving by the rules (`specs/Rules.antt`).
---     not-top, top-not           a block's test, and its rule's side condition
+--     not-top, top-not, truly-states, states-truly
+--                                a block's tests, and its rule's side conditions
 --     judge-typed                what judging finds has a derivation
 --     typed-judge                what has a derivation, judging finds, its report included
 --     judge-report               the derivation that judging finds has the report that judging makes
@@ -9,9 +10,10 @@
 use Prim.Native.Nat.{ℕ, _+_, _*_}
 use mathlib.Core.Path.{_≡_, refl, sym, ap, _∙_, subst}
 use mathlib.Core.Logic.{_≢_, _↔_}
-use mathlib.Core.Bool.{Bool, true, false, not}
+use mathlib.Core.Bool.{Bool, true, false, not, _||_}
 use mathlib.Core.List.{List}
 use lib.Dec.{eqb}
+use borrow.Author.Tests.{eqb-true, eq-eqb}
 use Rattle.atomicity.specs.Atomicity.{reportByte}
 use Rattle.atomicity.specs.declared.Atomicity.{Atomicity}
 use Rattle.atomicity.specs.declared.Atomicity.the-variants as atomicity
@@ -21,11 +23,12 @@ use Rattle.program.specs.Code.{Code, done, plain, choice, loop, block, size}
 use Rattle.program.specs.Layout.{Program}
 use Rattle.program.specs.Internal.WellFormed.{WellFormed}
 use Rattle.program.proofs.Answer.{fine-inj, bind-inv, require-inv, bind-on, require-on}
+use Rattle.program.proofs.Decode.{or-right}
 use Rattle.program.proofs.Differ.{differ}
 use Rattle.judge.specs.Discipline.{lockSetAfter}
-use Rattle.judge.specs.Judging.{Finding, isTop, judge}
+use Rattle.judge.specs.Judging.{Finding, isTop, statesTruly, judge}
 use Rattle.judge.specs.LockSet.{same}
-use Rattle.judge.specs.Rules.{Typed, typed-done, typed-plain, typed-choice, typed-loop, typed-block, report}
+use Rattle.judge.specs.Rules.{States, states-nothing, states-it, Typed, typed-done, typed-plain, typed-choice, typed-loop, typed-block, report}
 use Rattle.judge.specs.declared.lock_set.LockSet.{LockSet}
 use Rattle.judge.proofs.Legal.{judged-legal, legal-judged}
 use Rattle.judge.proofs.LockSets.{same-eq, same-self}
@@ -45,6 +48,23 @@ top-not atomicity.Left n = refl
 top-not atomicity.Right n = refl
 top-not atomicity.Atomic n = refl
 top-not atomicity.Top n = absurd (n refl)
+
+truly-states : (n : ℕ) (a : Atomicity) → statesTruly n a ≡ true → States n a
+unfolding statesTruly
+truly-states n a e = cases (eqb n 0) refl
+  where
+    cases : (nothing : Bool) → eqb n 0 ≡ nothing → States n a
+    cases true z = subst (λ (m : ℕ). States m a) (sym (eqb-true n 0 z)) states-nothing
+    cases false z = subst (λ (m : ℕ). States m a) (sym (eqb-true n (reportByte a) (or-right (eqb n 0) (eqb n (reportByte a)) e z))) states-it
+
+states-truly : {n : ℕ} {a : Atomicity} → States n a → statesTruly n a ≡ true
+unfolding statesTruly
+states-truly states-nothing = refl
+states-truly {a = a} states-it = rw (eq-eqb (reportByte a) (reportByte a) refl) (or-true (eqb (reportByte a) 0))
+  where
+    or-true : (x : Bool) → (x || true) ≡ true
+    or-true true = refl
+    or-true false = refl
 
 module _ (p : Program) (t : ℕ) where
   -- ---- from judging to a derivation
@@ -78,12 +98,14 @@ module _ (p : Program) (t : ℕ) where
       let turn = judge-typed a (w .0) (d + 4) s e₁ in
       typed-found _ _ f₃
       (typed-loop (subst (λ (s′ : LockSet). Typed p t s a s′ (body .atomicity)) (sym (same-eq s (body .locks) e₂)) turn) (judge-typed c (w .1) _ s e₃))
-  judge-typed (block a c) w d s e =
+  judge-typed (block stated a c) w d s e =
       bind-inv (judge p t (d + 4) s a) _ e λ body e₁ f₁.
       require-inv (not (isTop (body .atomicity))) _ _ f₁ λ e₂ f₂.
-      bind-inv (judge p t (d + 4 + 4 * size a + 4) (body .locks) c) _ f₂ λ rest e₃ f₃.
-      typed-found _ _ f₃
-      (typed-block (judge-typed a (w .0) (d + 4) s e₁) (not-top (body .atomicity) e₂) (judge-typed c (w .1) _ (body .locks) e₃))
+      require-inv (statesTruly stated (body .atomicity)) _ _ f₂ λ e₃ f₃.
+      bind-inv (judge p t (d + 4 + 4 * size a + 4) (body .locks) c) _ f₃ λ rest e₄ f₄.
+      typed-found _ _ f₄
+      (typed-block (judge-typed a (w .0) (d + 4) s e₁) (not-top (body .atomicity) e₂) (truly-states stated (body .atomicity) e₃)
+      (judge-typed c (w .1) _ (body .locks) e₄))
 
   -- ---- from a derivation to judging
 
@@ -104,10 +126,11 @@ module _ (p : Program) (t : ℕ) where
       bind-on (judge p t (d + 4) s a) _ (typed-judge body (d + 4))
       (require-on (same s s) _ _ (same-self s)
       (bind-on (judge p t (d + 4 + 4 * size a + 4) s c) _ (typed-judge rest _) refl))
-  typed-judge (typed-block {a = a} {next = c} {s = s} {s′ = s′} {x = x} body n rest) d =
+  typed-judge (typed-block {n = stated} {a = a} {next = c} {s = s} {s′ = s′} {x = x} body n states rest) d =
       bind-on (judge p t (d + 4) s a) _ (typed-judge body (d + 4))
       (require-on (not (isTop x)) _ _ (top-not x n)
-      (bind-on (judge p t (d + 4 + 4 * size a + 4) s′ c) _ (typed-judge rest _) refl))
+      (require-on (statesTruly stated x) _ _ (states-truly states)
+      (bind-on (judge p t (d + 4 + 4 * size a + 4) s′ c) _ (typed-judge rest _) refl)))
 
   -- the derivation that judging finds has the report that judging makes
   pub judge-report : (c : Code) → WellFormed c → (d : ℕ) (s : LockSet) {r : Finding} → judge p t d s c ≡ fine r

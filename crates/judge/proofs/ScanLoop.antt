@@ -35,12 +35,12 @@ use Rattle.program.specs.declared.layout.Layout.{Layout}
 use Rattle.program.specs.declared.nesting.Entry.{Entry}
 use Rattle.program.specs.declared.nesting.Entry.the-variants as entry
 use Rattle.program.specs.declared.refusal.Refusal.{Refusal}
-use Rattle.program.specs.declared.refusal.Refusal.the-variants.{SetsDiffer, NotAtomic}
+use Rattle.program.specs.declared.refusal.Refusal.the-variants.{SetsDiffer, NotAtomic, FalseStatement}
 use Rattle.program.proofs.Contents.{length-instructions}
 use Rattle.program.proofs.Differ.{differ}
 use Rattle.program.proofs.Lists.{getD-any, getD-set-holds}
 use Rattle.program.proofs.Stack.{length-stack, stack-push, stack-top}
-use Rattle.judge.specs.Judging.{isTop}
+use Rattle.judge.specs.Judging.{isTop, statesTruly}
 use Rattle.judge.specs.LockSet.{empty, same, withLock, withoutLock}
 use Rattle.judge.specs.Internal.Effect.{effectOf}
 use Rattle.judge.specs.Internal.Scan.{Carried, carried, noFrame, openedFrame, otherPart, endOf, closed, applied, scan, starting, framesOf, scanCode, ending}
@@ -51,14 +51,14 @@ use Rattle.judge.specs.declared.frame.Closed.the-variants.{Other, Whole,
 use Rattle.judge.specs.declared.frame.Frame.{Frame}
 use Rattle.judge.specs.declared.frame.Part.{Part}
 use Rattle.judge.specs.declared.lock_set.LockSet.{LockSet}
-use Rattle.judge.proofs.Effects.{partOf, AfterCloser, StepOf, step-of}
+use Rattle.judge.proofs.Effects.{PartOf, of-then, of-else, of-loop, of-block, AfterCloser, StepOf, step-of}
 
 -- ---- frames and entries
 
 -- the open frames are of the parts that the open entries open
 pub data Matches : List Entry → List Frame → Type 0 where
   match-none : Matches [] []
-  match-more : {e : Entry} {es : List Entry} {f : Frame} {fs : List Frame} → f .part ≡ partOf e → Matches es fs → Matches (e ∷ es) (f ∷ fs)
+  match-more : {e : Entry} {es : List Entry} {f : Frame} {fs : List Frame} → PartOf e (f .part) → Matches es fs → Matches (e ∷ es) (f ∷ fs)
 
 matches-length : {es : List Entry} {fs : List Frame} → Matches es fs → length es ≡ length fs
 matches-length match-none = refl
@@ -67,34 +67,35 @@ matches-length (match-more e m) = ap suc (matches-length m)
 below-match : {e : Entry} {es : List Entry} {f : Frame} {fs : List Frame} → Matches (e ∷ es) (f ∷ fs) → Matches es fs
 below-match (match-more k m) = m
 
-innermost-part : {e : Entry} {es : List Entry} {f : Frame} {fs : List Frame} → Matches (e ∷ es) (f ∷ fs) → f .part ≡ partOf e
+innermost-part : {e : Entry} {es : List Entry} {f : Frame} {fs : List Frame} → Matches (e ∷ es) (f ∷ fs) → PartOf e (f .part)
 innermost-part (match-more k m) = k
 
 -- a part that ends with its other part to come was opened by an IF, and one that ends its construct was not
 module _ (q : ℕ) (is : List Instruction) (d : ℕ) (f : Frame) (s : LockSet) (a : Atomicity) where
-  other-of : (e : Entry) (es : List Entry) → endOf (partOf e) d f s a ≡ Other → AfterCloser q is e es → (m : ℕ) × Passes (suc q) is (entry.Else m ∷ es)
-  other-of (entry.Then w) es h next = next
-  other-of (entry.Else w) es h next = absurd (tests (same (f .locks) s) h)
+  other-of : {e : Entry} {x : Part} → PartOf e x → (es : List Entry) → endOf x d f s a ≡ Other → AfterCloser q is e es → (m : ℕ) × Passes (suc q) is (entry.Else m ∷ es)
+  other-of of-then es h next = next
+  other-of of-else es h next = absurd (tests (same (f .locks) s) h)
     where
       tests : (b : Bool) → choose b (Whole (join (f .first) a)) (Refused (SetsDiffer d)) ≡ Other → ⊥
       tests true k = differ cc
       tests false k = differ cc
-  other-of (entry.Loop w n) es h next = absurd (tests (same (f .locks) s) h)
+  other-of of-loop es h next = absurd (tests (same (f .locks) s) h)
     where
       tests : (b : Bool) → choose b (Whole (closure a)) (Refused (SetsDiffer d)) ≡ Other → ⊥
       tests true k = differ cc
       tests false k = differ cc
-  other-of (entry.Block w) es h next = absurd (tests (not (isTop a)) h)
+  other-of (of-block {stated = stated}) es h next = absurd (tests (not (isTop a)) (statesTruly stated a) h)
     where
-      tests : (b : Bool) → choose b (Whole a) (Refused (NotAtomic d)) ≡ Other → ⊥
-      tests true k = differ cc
-      tests false k = differ cc
+      tests : (b c : Bool) → choose b (choose c (Whole a) (Refused (FalseStatement d))) (Refused (NotAtomic d)) ≡ Other → ⊥
+      tests true true k = differ cc
+      tests true false k = differ cc
+      tests false c k = differ cc
 
-  whole-of : (e : Entry) (es : List Entry) (b : Atomicity) → endOf (partOf e) d f s a ≡ Whole b → AfterCloser q is e es → Passes (suc q) is es
-  whole-of (entry.Then w) es b h next = differ cc
-  whole-of (entry.Else w) es b h next = next
-  whole-of (entry.Loop w n) es b h next = next
-  whole-of (entry.Block w) es b h next = next
+  whole-of : {e : Entry} {x : Part} → PartOf e x → (es : List Entry) (b : Atomicity) → endOf x d f s a ≡ Whole b → AfterCloser q is e es → Passes (suc q) is es
+  whole-of of-then es b h next = differ cc
+  whole-of of-else es b h next = next
+  whole-of of-loop es b h next = next
+  whole-of of-block es b h next = next
 
 -- ---- the frames of an array
 
@@ -316,9 +317,9 @@ module _ (s : List ℕ) (l : Layout) (c start count at : ℕ) (report₀ : List 
             let f = otherPart frame locks sofar in
             let replaced = frames-replaced depth frames f closes-some (omega (arith, x .depth-bound, x .frames-length)) in
             let t = closed-step in
-            let after-else = other-of p after (start + 4 * p) frame locks sofar (t .0) (t .1) (rw (innermost-part innermost-match) at h) (t .3) in
+            let after-else = other-of p after (start + 4 * p) frame locks sofar (innermost-part innermost-match) (t .1) h (t .3) in
             scanning-next (set report (at + p) 0) (set frames depth f) depth (frame .locks) Both (closed-goes Other h ∙ rw replaced) (x .depth-bound) (length-set frames depth f)
-            (length-set report (at + p) 0) (openers-set depth f opener-bound) (entry.Else (after-else .0) ∷ t .1) (after-else .1) (rw replaced (match-more refl (below-match innermost-match)))
+            (length-set report (at + p) 0) (openers-set depth f opener-bound) (entry.Else (after-else .0) ∷ t .1) (after-else .1) (rw replaced (match-more of-else (below-match innermost-match)))
 
         pub scanning-whole : (b : Atomicity) → endOf (frame .part) (start + 4 * p) frame locks sofar ≡ Whole b
             → Scanning (set (set report (at + p) 0) (frame .opener) (reportByte b)) frames (depth - 1) locks (composition (frame .before) b) (p + 1)
@@ -327,7 +328,7 @@ module _ (s : List ℕ) (l : Layout) (c start count at : ℕ) (report₀ : List 
             let t = closed-step in
             scanning-next (set (set report (at + p) 0) (frame .opener) (reportByte b)) frames (depth - 1) locks (composition (frame .before) b) (closed-goes (Whole b) h)
             (omega (arith, x .depth-bound)) refl (length-set (set report (at + p) 0) (frame .opener) (reportByte b) ∙ length-set report (at + p) 0) (x .openers)
-            (t .1) (whole-of p after (start + 4 * p) frame locks sofar (t .0) (t .1) b (rw (innermost-part innermost-match) at h) (t .3)) (below-match innermost-match)
+            (t .1) (whole-of p after (start + 4 * p) frame locks sofar (innermost-part innermost-match) (t .1) b h (t .3)) (below-match innermost-match)
 
   -- the code's end
   pub scanning-end : (report : List ℕ) (frames : List Frame) (depth : ℕ) (locks : LockSet) (sofar : Atomicity) (p : ℕ)

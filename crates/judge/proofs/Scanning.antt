@@ -16,7 +16,7 @@ use Rattle.atomicity.specs.Atomicity.{reportByte, composition, join, closure}
 use Rattle.atomicity.specs.declared.Atomicity.{Atomicity}
 use Rattle.atomicity.specs.declared.Atomicity.the-variants.{Both}
 use Rattle.atomicity.proofs.Laws.{then-assoc, both-then, then-both}
-use Rattle.program.specs.View.{accessOf, formOf}
+use Rattle.program.specs.View.{accessOf, formOf, statementOf}
 use Rattle.program.specs.Answer.{Answer, fine, _>>=_, require}
 use Rattle.program.specs.Choice.{choose}
 use Rattle.program.specs.Code.{Code, done, plain, choice, loop, block, size}
@@ -25,10 +25,10 @@ use Rattle.program.specs.Internal.WellFormed.{flat, WellFormed}
 use Rattle.program.specs.declared.instruction.Instruction.{Instruction}
 use Rattle.program.specs.declared.instruction.Instruction.the-variants as instruction
 use Rattle.program.specs.declared.refusal.Refusal.{Refusal}
-use Rattle.program.specs.declared.refusal.Refusal.the-variants.{SetsDiffer, NotAtomic}
+use Rattle.program.specs.declared.refusal.Refusal.the-variants.{SetsDiffer, NotAtomic, FalseStatement}
 use Rattle.program.proofs.Answer.{Holds, bind-assoc, bind-ext, bind-holds, bind-any, require-bind, require-ext, require-holds, holds-fine}
 use Rattle.judge.specs.Discipline.{lockSetAfter, atomicityOf, moverOf}
-use Rattle.judge.specs.Judging.{Finding, judge, isTop}
+use Rattle.judge.specs.Judging.{Finding, judge, isTop, statesTruly}
 use Rattle.judge.specs.LockSet.{same}
 use Rattle.judge.specs.Internal.Effect.{formEffect, effectOf}
 use Rattle.judge.specs.Internal.Scan.{Carried, carried, openedFrame, otherPart, endOf, closed, applied, scan}
@@ -38,6 +38,7 @@ use Rattle.judge.specs.declared.frame.Part.the-variants as part
 use Rattle.judge.specs.declared.lock_set.LockSet.{LockSet}
 use Rattle.judge.specs.declared.effect.Effect.{Effect}
 use Rattle.judge.specs.declared.effect.Effect.the-variants.{Opens, Closes}
+use Rattle.judge.specs.declared.frame.Closed.{Closed}
 use Rattle.judge.specs.declared.frame.Closed.the-variants.{Whole, Refused}
 use Rattle.judge.proofs.Effects.{access-applied, plain-effect}
 use Rattle.judge.proofs.LockSets.{same-eq}
@@ -68,10 +69,11 @@ module _ (p : Program) (t : ℕ) where
       bind-holds _ _ (judge p t (d + 4) s a) _ (report-size a (d + 4) s) (λ r n.
       require-holds _ (same s (r .locks)) _ _
       (bind-holds _ _ (judge p t (d + 4 + 4 * size a + 4) s c) _ (report-size c _ s) (λ u k. simp length-append (omega arith))))
-  report-size (block a c) d s =
+  report-size (block stated a c) d s =
       bind-holds _ _ (judge p t (d + 4) s a) _ (report-size a (d + 4) s) (λ r n.
       require-holds _ (not (isTop (r .atomicity))) _ _
-      (bind-holds _ _ (judge p t (d + 4 + 4 * size a + 4) (r .locks) c) _ (report-size c _ (r .locks)) (λ u k. simp length-append (omega arith))))
+      (require-holds _ (statesTruly stated (r .atomicity)) _ _
+      (bind-holds _ _ (judge p t (d + 4 + 4 * size a + 4) (r .locks) c) _ (report-size c _ (r .locks)) (λ u k. simp length-append (omega arith)))))
 
   -- the theorem's claim for code c
   abbrev pub Agrees : Code → Type 0
@@ -137,19 +139,33 @@ module _ (p : Program) (t : ℕ) where
       next d at s Both fs report rest w
       ∙ bind-ext (judge p t d s c) _ _ (λ r e. rw (both-then (r .atomicity)))
 
+  -- a test of a closer
+  closer-test : (ok : Bool) (refusal : Refusal) (x : Closed) (f : Frame) (s : LockSet) (a : Atomicity) (fs : List Frame)
+      (report : List ℕ) (go : Carried → Answer Carried)
+      → (closed (choose ok x (Refused refusal)) f s a fs report >>= go) ≡ require ok refusal (closed x f s a fs report >>= go)
+  unfolding closed
+  closer-test true refusal x f s a fs report go = refl
+  closer-test false refusal x f s a fs report go = refl
+
   -- past a closer whose construct has atomicity b, if it passes its test
   scan-closer : (ok : Bool) (refusal : Refusal) (d at : ℕ) (s : LockSet) (a b : Atomicity) (f : Frame) (fs : List Frame)
       (report : List ℕ) (go : Carried → Answer Carried) → endOf (f .part) d f s a ≡ choose ok (Whole b) (Refused refusal)
       → (applied Closes d at (carried s a (f ∷ fs) report) >>= go)
       ≡ require ok refusal (go (carried s (composition (f .before) b) fs (set (set report at 0) (f .opener) (reportByte b))))
   unfolding applied closed
-  scan-closer ok refusal d at s a b f fs report go e = rw e (cases ok)
-    where
-      cases : (ok : Bool)
-          → (closed (choose ok (Whole b) (Refused refusal)) f s a fs (set report at 0) >>= go)
-          ≡ require ok refusal (go (carried s (composition (f .before) b) fs (set (set report at 0) (f .opener) (reportByte b))))
-      cases true = refl
-      cases false = refl
+  scan-closer ok refusal d at s a b f fs report go e = rw e (closer-test ok refusal (Whole b) f s a fs (set report at 0) go)
+
+  -- past the END of a block, if it passes both tests
+  scan-block-end : (stated d at at₀ : ℕ) (s s₀ : LockSet) (a a₀ : Atomicity) (fs : List Frame) (report : List ℕ) (go : Carried → Answer Carried)
+      → (applied Closes d at (carried s a (openedFrame (part.Block stated) at₀ s₀ a₀ ∷ fs) report) >>= go)
+      ≡ require (not (isTop a)) (NotAtomic d) (require (statesTruly stated a) (FalseStatement d)
+      (go (carried s (composition a₀ a) fs (set (set report at 0) at₀ (reportByte a)))))
+  unfolding applied closed
+  scan-block-end stated d at at₀ s s₀ a a₀ fs report go =
+      let f = openedFrame (part.Block stated) at₀ s₀ a₀ in
+      closer-test (not (isTop a)) (NotAtomic d) (choose (statesTruly stated a) (Whole a) (Refused (FalseStatement d))) f s a fs (set report at 0) go
+      ∙ ap (λ (m : Answer Carried). require (not (isTop a)) (NotAtomic d) m)
+      (closer-test (statesTruly stated a) (FalseStatement d) (Whole a) f s a fs (set report at 0) go)
 
   -- past an ELSE
   scan-else : (d at at₀ : ℕ) (s s₀ : LockSet) (a a₀ : Atomicity) (fs : List Frame) (report : List ℕ)
@@ -196,24 +212,25 @@ module _ (p : Program) (t : ℕ) where
       ∙ sym (require-bind (same s (r .locks)) (SetsDiffer d₁) _ _))
       ∙ sym (bind-assoc (judge p t (d + 4) s body) _ _)
 
-  block-agrees : (body c : Code) → Agrees body → Agrees c → Agrees (block body c)
-  unfolding flat judge size scan WellFormed formOf effectOf formEffect
-  block-agrees body c inside next d at s a fs report rest w =
-      let frame = openedFrame part.Block at s a in
+  block-agrees : (stated : ℕ) (body c : Code) → Agrees body → Agrees c → Agrees (block stated body c)
+  unfolding flat judge size scan WellFormed formOf statementOf effectOf formEffect
+  block-agrees stated body c inside next d at s a fs report rest w =
+      let frame = openedFrame (part.Block stated) at s a in
       let d₁ = d + 4 + 4 * size body in
       let at₁ = suc at + size body in
       let more = instruction.End ∷ (flat c ++ rest) in
-      ap (λ (is : List Instruction). scan p t d at (carried s a fs report) (instruction.Atomic (size body + 1) ∷ is))
+      ap (λ (is : List Instruction). scan p t d at (carried s a fs report) (instruction.Atomic stated (size body + 1) ∷ is))
       (append-assoc (flat body) (instruction.End ∷ flat c) rest)
-      ∙ scan-opener part.Block d at (instruction.Atomic (size body + 1)) (flat body ++ more) s a fs report refl
+      ∙ scan-opener (part.Block stated) d at (instruction.Atomic stated (size body + 1)) (flat body ++ more) s a fs report refl
       ∙ part-agrees body inside (d + 4) (suc at) s (frame ∷ fs) report more (w .0)
       ∙ bind-ext (judge p t (d + 4) s body) _ _ (λ r e.
       let n = holds-fine _ (judge p t (d + 4) s body) r (report-size body (d + 4) s) e in
-      scan-closer (not (isTop (r .atomicity))) (NotAtomic d₁) d₁ at₁ (r .locks) (r .atomicity) (r .atomicity) frame fs
-      (sets report (suc at) (r .report)) (λ y. scan p t (d₁ + 4) (suc at₁) y (flat c ++ rest)) refl
+      scan-block-end stated d₁ at₁ at (r .locks) s (r .atomicity) a fs (sets report (suc at) (r .report)) (λ y. scan p t (d₁ + 4) (suc at₁) y (flat c ++ rest))
       ∙ require-ext (not (isTop (r .atomicity))) (NotAtomic d₁) _ _ (λ ok.
-      construct-agrees c next (d₁ + 4) (d + 4 * size (block body c)) at at₁ (at + size (block body c)) (r .locks) a (r .atomicity) fs
+      require-ext (statesTruly stated (r .atomicity)) (FalseStatement d₁) _ _ (λ truly.
+      construct-agrees c next (d₁ + 4) (d + 4 * size (block stated body c)) at at₁ (at + size (block stated body c)) (r .locks) a (r .atomicity) fs
       report (r .report) rest (w .1) (omega arith) (omega arith) (omega arith))
+      ∙ sym (require-bind (statesTruly stated (r .atomicity)) (FalseStatement d₁) _ _))
       ∙ sym (require-bind (not (isTop (r .atomicity))) (NotAtomic d₁) _ _))
       ∙ sym (bind-assoc (judge p t (d + 4) s body) _ _)
 
@@ -265,4 +282,4 @@ module _ (p : Program) (t : ℕ) where
   scan-agrees (plain i c) = plain-agrees i c (scan-agrees c)
   scan-agrees (choice x a b c) = choice-agrees x a b c (scan-agrees a) (scan-agrees b) (scan-agrees c)
   scan-agrees (loop x a c) = loop-agrees x a c (scan-agrees a) (scan-agrees c)
-  scan-agrees (block a c) = block-agrees a c (scan-agrees a) (scan-agrees c)
+  scan-agrees (block stated a c) = block-agrees stated a c (scan-agrees a) (scan-agrees c)

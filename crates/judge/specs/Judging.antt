@@ -1,7 +1,7 @@
 -- The rules of judging over structured code, in reading order (the standard, "Lock discipline", "Atomicities";
 -- "Who can bring a number about": the writer's part), and the report.
 use Prim.Native.Nat.{ℕ, suc, _+_, _*_}
-use mathlib.Core.Bool.{Bool, not}
+use mathlib.Core.Bool.{Bool, not, _||_}
 use mathlib.Core.List.{List, [], _∷_, _++_}
 use lib.ListN.{length}
 use lib.Dec.{eqb}
@@ -12,7 +12,7 @@ use Rattle.program.specs.Answer.{Answer, fine, _>>=_, _>>_, require}
 use Rattle.program.specs.Code.{Code, done, plain, choice, loop, block, size, structured}
 use Rattle.program.specs.Layout.{Program, CodeSection}
 use Rattle.program.specs.Limits.{instructionSize}
-use Rattle.program.specs.declared.refusal.Refusal.the-variants.{SetsDiffer, NotAtomic}
+use Rattle.program.specs.declared.refusal.Refusal.the-variants.{SetsDiffer, NotAtomic, FalseStatement}
 use Rattle.judge.specs.Discipline.{lockSetAfter, atomicityOf}
 use Rattle.judge.specs.LockSet.{empty, same}
 use Rattle.judge.specs.declared.lock_set.LockSet.{LockSet}
@@ -26,6 +26,10 @@ pub record Finding : Type 0 where
 -- "block is T"
 unfoldable pub isTop : Atomicity → Bool
 isTop a = eqb (reportByte a) (reportByte Top)
+
+-- what an ATOMIC states of a block with atomicity a is true: "0 means not stated"; "A stated value must be exactly the one worked out"
+unfoldable pub statesTruly : (stated : ℕ) → Atomicity → Bool
+statesTruly stated a = eqb stated 0 || eqb stated (reportByte a)
 
 -- the offset of the closer behind part a, whose opener has offset d
 abbrev pub closerAt : (d : ℕ) → Code → ℕ
@@ -56,9 +60,10 @@ judge p c d s (loop r a next) = do
   require (same s (body .locks)) (SetsDiffer (closerAt d a))
   rest ← judge p c (closerAt d a + instructionSize) s next
   followed (closure (body .atomicity)) (λ more. body .report ++ 0 ∷ more) rest
-judge p c d s (block a next) = do
+judge p c d s (block stated a next) = do
   body ← judge p c (d + instructionSize) s a
   require (not (isTop (body .atomicity))) (NotAtomic (closerAt d a))
+  require (statesTruly stated (body .atomicity)) (FalseStatement (closerAt d a))
   rest ← judge p c (closerAt d a + instructionSize) (body .locks) next
   followed (body .atomicity) (λ more. body .report ++ 0 ∷ more) rest
 

@@ -45,6 +45,13 @@ pub data Legal (p : Program) (c : ℕ) : Access → LockSet → LockSet → Type
 
 -- ---- the rules
 
+-- `States n x`: an ATOMIC whose field a is n states nothing, or exactly the atomicity x of its block
+pub data States : ℕ → Atomicity → Type 0 where
+  -- "0 means not stated"
+  states-nothing : {x : Atomicity} → States 0 x
+  -- "A stated value must be exactly the one worked out"
+  states-it : {x : Atomicity} → States (reportByte x) x
+
 -- `Typed p c s x s′ a`: the part x of code c leads from the lock set s to s′ and has atomicity a. Each construct is composed with what
 -- follows it
 pub data Typed (p : Program) (c : ℕ) : LockSet → Code → LockSet → Atomicity → Type 0 where
@@ -62,10 +69,10 @@ pub data Typed (p : Program) (c : ℕ) : LockSet → Code → LockSet → Atomic
   typed-loop : {r : ℕ} {a next : Code} {s s″ : LockSet} {x z : Atomicity}
       → Typed p c s a s x → Typed p c s next s″ z
       → Typed p c s (loop r a next) s″ (composition (closure x) z)
-  -- "ATOMIC has its body's atomicity, which must not be T"
-  typed-block : {a next : Code} {s s′ s″ : LockSet} {x z : Atomicity}
-      → Typed p c s a s′ x → x ≢ Top → Typed p c s′ next s″ z
-      → Typed p c s (block a next) s″ (composition x z)
+  -- "ATOMIC has its body's atomicity, which must not be T", and states no other
+  typed-block : {n : ℕ} {a next : Code} {s s′ s″ : LockSet} {x z : Atomicity}
+      → Typed p c s a s′ x → x ≢ Top → States n x → Typed p c s′ next s″ z
+      → Typed p c s (block n a next) s″ (composition x z)
 
 -- ---- the report
 
@@ -75,7 +82,7 @@ report typed-done = []
 report {p} {c} (typed-plain {i = i} {s = s} f l rest) = reportByte (atomicityOf p c s i) ∷ report rest
 report (typed-choice {x = x} {y = y} first second rest) = reportByte (join x y) ∷ report first ++ 0 ∷ report second ++ 0 ∷ report rest
 report (typed-loop {x = x} body rest) = reportByte (closure x) ∷ report body ++ 0 ∷ report rest
-report (typed-block {x = x} body proper rest) = reportByte x ∷ report body ++ 0 ∷ report rest
+report (typed-block {x = x} body proper stated rest) = reportByte x ∷ report body ++ 0 ∷ report rest
 
 -- ---- codes and programs
 

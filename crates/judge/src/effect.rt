@@ -96,7 +96,7 @@ pub fn effect_of(
         Instruction::Else(_) => Effect::Closes,
         Instruction::While(_, _) => Effect::Opens(Part::Body),
         Instruction::Again(_) => Effect::Closes,
-        Instruction::Atomic(_) => Effect::Opens(Part::Block),
+        Instruction::Atomic(stated, _) => Effect::Opens(Part::Block(stated)),
         Instruction::End => Effect::Closes,
         _ => Effect::Nothing,
     }

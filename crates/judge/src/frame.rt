@@ -3,7 +3,7 @@ use crate::lock_set::LockSet;
 use atomicity::Atomicity;
 use program::refusal::Refusal;
 ghost use mathlib.Core.Path.{_≡_};
-ghost use Rattle.judge.specs.Judging.{isTop};
+ghost use Rattle.judge.specs.Judging.{isTop, statesTruly};
 ghost use Rattle.judge.specs.Internal.Scan.{noFrame, openedFrame, otherPart};
 ghost use Rattle.judge.specs.Internal.Scan as Scan;
 
@@ -15,8 +15,8 @@ pub enum Part {
     Else,
     // A WHILE's body.
     Body,
-    // An ATOMIC's body.
-    Block,
+    // An ATOMIC's body, with what the ATOMIC states: a report byte, or 0.
+    Block(u8),
 }
 
 // A part with what its closer needs.
@@ -47,7 +47,7 @@ pub fn no_frame() -> Frame
 {
     let locks = LockSet::empty();
     Frame {
-        part: Part::Block,
+        part: Part::Body,
         opener: 0,
         locks,
         first: Atomicity::Both,
@@ -112,14 +112,24 @@ fn is_top(a: Atomicity) -> bool
     a.report_byte() == Atomicity::Top.report_byte()
 }
 
-// The END of an ATOMIC.
-fn block_end(d: usize, sofar: Atomicity) -> Closed
-    ensures { λ r. ⌜ r ≡ Scan.blockEnd d sofar ⌝ }
+// Whether what an ATOMIC states of its block is true.
+fn states_truly(stated: u8, a: Atomicity) -> bool
+    ensures { λ r. ⌜ r ≡ statesTruly stated a ⌝ }
+{
+    (stated == 0) | (stated == a.report_byte())
+}
+
+// The END of an ATOMIC that states this.
+fn block_end(stated: u8, d: usize, sofar: Atomicity) -> Closed
+    ensures { λ r. ⌜ r ≡ Scan.blockEnd stated d sofar ⌝ }
 {
     if is_top(sofar) {
         return Closed::Refused(Refusal::NotAtomic(d));
     }
-    Closed::Whole(sofar)
+    if states_truly(stated, sofar) {
+        return Closed::Whole(sofar);
+    }
+    Closed::Refused(Refusal::FalseStatement(d))
 }
 
 // The closer at file offset d of the part that this frame is of.
@@ -131,6 +141,6 @@ pub fn part_end(d: usize, frame: Frame, locks: LockSet, sofar: Atomicity) -> Clo
         Part::Then => Closed::Other,
         Part::Else => else_end(d, frame, locks, sofar),
         Part::Body => body_end(d, frame, locks, sofar),
-        Part::Block => block_end(d, sofar),
+        Part::Block(stated) => block_end(stated, d, sofar),
     }
 }

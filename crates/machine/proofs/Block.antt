@@ -17,7 +17,7 @@ blocks = record {
   locks = 0;
   variables = [];
   threads = 1;
-  codes = record { start = 0; code = Atomic 3 ∷ Atomic 1 ∷ End ∷ End ∷ While 0 1 ∷ Again 1 ∷ [] } ∷ [];
+  codes = record { start = 0; code = Atomic 0 3 ∷ Atomic 0 1 ∷ End ∷ End ∷ While 0 1 ∷ Again 1 ∷ [] } ∷ [];
 }
 
 -- the thread at a place

@@ -12,6 +12,7 @@
 --     Start        the initial values, as a loop finds them; the start in arrays
 --     StateBytes   the state's bytes, as loops write them
 --     Shape        how long the lists of a state are, and how many bytes it has
+--     Unstated     a program with its statements taken out runs alike
 pub mod Definitions
 pub mod Names
 pub mod Sums
@@ -25,3 +26,4 @@ pub mod Between
 pub mod Start
 pub mod StateBytes
 pub mod Shape
+pub mod Unstated

@@ -75,7 +75,7 @@ resultOf (If a n) x r = keeps
 resultOf (Else n) x r = keeps
 resultOf (While a n) x r = keeps
 resultOf (Again n) x r = keeps
-resultOf (Atomic n) x r = keeps
+resultOf (Atomic a n) x r = keeps
 resultOf End x r = keeps
 
 -- the registers with a result stored

@@ -91,7 +91,7 @@ pub fn move_of(i: Instruction, r: &[[u32; REGISTER_COUNT]], t: usize, place: usi
         Instruction::Else(n) => Move::Goes(place + n as usize),
         Instruction::While(a, n) => branch(r[t][a as usize], n, place),
         Instruction::Again(n) => Move::Goes(back(place, n)),
-        Instruction::Atomic(_) => Move::Passes,
+        Instruction::Atomic(_, _) => Move::Passes,
         Instruction::End => Move::Passes,
     }
 }

@@ -110,6 +110,16 @@ pub words-last : {w k l : List ℕ} {at p : ℕ} → LaidWord w 32 at k l p → 
 unfolding blanked
 words-last {w} f = record { laid = rw (append-nil (ended w 32)) (f .laid) }
 
+-- words with their blanks, and others after them
+blanked-append : (ws vs : List (List ℕ)) → blanked (ws ++ vs) ≡ blanked ws ++ blanked vs
+unfolding blanked
+blanked-append [] vs = refl
+blanked-append (w ∷ ws) vs = rw (blanked-append ws vs) (sym (append-assoc (ended w 32) (blanked ws) (blanked vs)))
+
+pub words-then : {ws vs : List (List ℕ)} {k l m : List ℕ} {at p q : ℕ}
+    → LaidWords ws at k l p → LaidWords vs p l m q → LaidWords (ws ++ vs) at k m q
+words-then {ws} {vs} f g = record { laid = rw (blanked-append ws vs) (laid-then (f .laid) (g .laid)) }
+
 -- the words of an instruction, of a kind, that is known by its pattern
 pub instruction-words-is : {i j : Instruction} {k l : List ℕ} {at p : ℕ} → i ≡ j → LaidWords (instructionWords j) at k l p → LaidWords (instructionWords i) at k l p
 instruction-words-is e f = rw e f

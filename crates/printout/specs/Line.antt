@@ -3,6 +3,8 @@ use Prim.Native.Nat.{ℕ, suc, _+_, _-_}
 use Prim.Native.String.{String}
 use mathlib.Core.List.{List, [], _∷_, _++_, flatMap}
 use lib.ListN.{length, getD, take, drop}
+use lib.Dec.{eqb}
+use Rattle.program.specs.Choice.{choose}
 use Rattle.program.specs.Field.{byteAt}
 use Rattle.program.specs.Layout.{Program, CodeSection}
 use Rattle.program.specs.Limits.{instructionSize, recordOffset}
@@ -48,6 +50,10 @@ unfoldable pub variableLines : List ℕ → (v : ℕ) → List Variable → List
 variableLines s v [] = []
 variableLines s v (x ∷ xs) = variableLine s v x ∷ variableLines s (suc v) xs
 
+-- "An ATOMIC shows the letter that it states after the distance, and nothing for 0"
+unfoldable pub statedWords : (stated : ℕ) → List (List ℕ)
+statedWords stated = choose (eqb stated 0) [] (letter stated ∷ [])
+
 -- "name, its fields in byte order (r, v, k for register, variable, lock; numbers bare)"
 unfoldable pub instructionWords : Instruction → List (List ℕ)
 instructionWords (Set a n) = ascii "SET" ∷ numbered "r" a ∷ decimal n ∷ []
@@ -63,7 +69,7 @@ instructionWords (If a n) = ascii "IF" ∷ numbered "r" a ∷ decimal n ∷ []
 instructionWords (Else n) = ascii "ELSE" ∷ decimal n ∷ []
 instructionWords (While a n) = ascii "WHILE" ∷ numbered "r" a ∷ decimal n ∷ []
 instructionWords (Again n) = ascii "AGAIN" ∷ decimal n ∷ []
-instructionWords (Atomic n) = ascii "ATOMIC" ∷ decimal n ∷ []
+instructionWords (Atomic a n) = ascii "ATOMIC" ∷ decimal n ∷ statedWords a
 instructionWords End = ascii "END" ∷ []
 
 -- `20 00 00 00 0 TAKE k0 R`: the instruction at a place, its bytes at an offset, with its report byte

@@ -1,5 +1,6 @@
 // The words of a kind and of an instruction, each with a blank after it. Instructions whose fields have the same shape share a function.
 use crate::text::copy_at;
+use crate::text::letter_at;
 use crate::text::lettered_at;
 use crate::text::short_at;
 use program::instruction::Instruction;
@@ -7,8 +8,8 @@ use program::variable::Kind;
 ghost use mathlib.Core.List.{[], _∷_};
 ghost use Prim.Native.Nat.{_+_, _≤_};
 ghost use lib.ListN.{length};
-ghost use Rattle.printout.specs.Text.{decimal};
-ghost use Rattle.printout.specs.Line.{kindWords, instructionWords};
+ghost use Rattle.printout.specs.Text.{ascii, decimal};
+ghost use Rattle.printout.specs.Line.{kindWords, instructionWords, statedWords};
 ghost use Rattle.printout.specs.Internal.Writing.{LaidWords, lettered};
 
 // A name and a number.
@@ -65,6 +66,19 @@ fn name_registers(out: &mut [u8], at: usize, name: &[u8], a: u8, b: u8, c: u8) -
     lettered_at(out, next, b'r', c, b' ')
 }
 
+// An ATOMIC with its distance and, if it states an atomicity, that one's letter.
+fn atomic_words(out: &mut [u8], at: usize, stated: u8, n: u16) -> usize
+    requires { ⌜ at + 15 ≤ length (now out) ⌝ }
+    ensures { λ r. ⌜ LaidWords (ascii "ATOMIC" ∷ decimal n ∷ statedWords stated) at (now (out .entry)) (now (out .exit)) r ⌝ }
+    ensures { λ r. ⌜ r ≤ at + 15 ⌝ }
+{
+    let next = name_number(out, at, b"ATOMIC", n);
+    if stated == 0 {
+        return next;
+    }
+    letter_at(out, next, stated, b' ')
+}
+
 // The words of a variable's kind.
 pub fn kind_words(out: &mut [u8], at: usize, kind: Kind) -> usize
     requires { ⌜ at + 13 ≤ length (now out) ⌝ }
@@ -99,7 +113,7 @@ pub fn instruction_words(out: &mut [u8], at: usize, i: Instruction) -> usize
         Instruction::Else(n) => name_number(out, at, b"ELSE", n),
         Instruction::While(a, n) => name_register_number(out, at, b"WHILE", a, n),
         Instruction::Again(n) => name_number(out, at, b"AGAIN", n),
-        Instruction::Atomic(n) => name_number(out, at, b"ATOMIC", n),
+        Instruction::Atomic(stated, n) => atomic_words(out, at, stated, n),
         Instruction::End => copy_at(out, at, b"END", b' '),
     }
 }

@@ -30,7 +30,7 @@ use borrow.Author.Tests.{ltb-true, leb-true, eqb-true, lt-ltb, le-ltb, ne-eqb}
 use Rattle.program.specs.View.{Access, none, reads, writes, takes, gives, accessOf, formOf, Form}
 use Rattle.program.specs.Choice.{choose}
 use Rattle.program.specs.Field.{byteAt}
-use Rattle.program.specs.Instruction.{Decoded, Valid, Invalid, FieldKind, register, variable, lock, zero as zeroField, part, isRight, isRightRow, TableRow, row, table, lookUp, decode, decodeAt, decodedInstruction, isValid}
+use Rattle.program.specs.Instruction.{Decoded, Valid, Invalid, FieldKind, register, variable, lock, zero as zeroField, part, statement, isRight, isRightRow, TableRow, row, table, lookUp, decode, decodeAt, decodedInstruction, isValid}
 use Rattle.program.specs.Limits.{registerCount}
 use Rattle.program.specs.Internal.Rows.{position, rowOf, rowsFrom, rowTable, limitOf, kinds, column, limitsOf, AreLimits, fits, nestingRows}
 use Rattle.program.specs.Internal.Change.{rowForm}
@@ -138,6 +138,7 @@ right-below locks variables x h lock = refl
 right-below locks variables zero h zeroField = refl
 right-below locks variables (suc x) h zeroField = le-ltb (suc x) 1 (omega arith) ∙ sym (ne-eqb (suc x) 0 (omega arith))
 right-below locks variables x h part = lt-ltb x 256 h
+right-below locks variables x h statement = refl
 
 -- the limit of row m, counted from 0, in a column
 column-at : (locks variables m : ℕ) (ks : List FieldKind) → m < length ks → m < 31

@@ -20,12 +20,15 @@
 --     CodeSections the code sections of the threads, as they are read
 --     Steps        the steps of the definition of reading
 --     Sound        what a file that is read as sound holds
+--     ReadSound    a file that holds it is read as sound
 --     SectionTable the table of sections, filled code by code
 --     Prefix       bytes past the largest file's length are not looked at
 --     Structure    nesting passes exactly for the flat writing of structured code; by way of
 --                  StructureFlat (the flat writing, and reading it back), StructureTurn (what a scan that passes has come to),
 --                  StructureParse (from the scan to the code) and StructureScan (from the code to the scan)
 --     Jumps        distances lead to places of the code
+--     Unstated     an instruction, a code and a program with its statements taken out
+--     UnstatedFile ... a file: it is read as sound, and its program is the other's with its statements taken out
 pub mod Definitions
 pub mod Figures
 pub mod Differ
@@ -47,6 +50,7 @@ pub mod ReadBack
 pub mod CodeSections
 pub mod Steps
 pub mod Sound
+pub mod ReadSound
 pub mod SectionTable
 pub mod Prefix
 pub mod StructureFlat
@@ -55,3 +59,5 @@ pub mod StructureParse
 pub mod StructureScan
 pub mod Structure
 pub mod Jumps
+pub mod Unstated
+pub mod UnstatedFile

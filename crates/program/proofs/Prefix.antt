@@ -19,7 +19,7 @@ use native.Mathlib.Omega.{arith}
 use borrow.Author.Tests.{leb-true, le-leb, ne-eqb}
 use Rattle.program.specs.Answer.{Answer, fine, refused, _>>=_, require, requireNone}
 use Rattle.program.specs.Choice.{firstBad}
-use Rattle.program.specs.Field.{byteAt, pairAt, cursor, present, byteField, pairField, section}
+use Rattle.program.specs.Field.{byteAt, pairAt, cursor, present, pairField, section}
 use Rattle.program.specs.Variable.{recordAt}
 use Rattle.program.specs.Variable
 use Rattle.program.specs.Instruction.{decodeAt}
@@ -35,6 +35,7 @@ use Rattle.program.specs.declared.refusal.Refusal.the-variants.{Missing,
 use Rattle.program.specs.declared.refusal.Refusal.the-variants as refusal
 use Rattle.program.proofs.Answer.{fine-parts, bind-ext, require-ext, bind-inv}
 use Rattle.program.proofs.ReadBack.{section-value, variables-value, code-value}
+use Rattle.program.proofs.ReadSound.{byte-there}
 use Rattle.program.proofs.Sound.{sound-file}
 use Rattle.program.proofs.Steps.{afterSections, afterVariables, afterThreads}
 
@@ -53,11 +54,6 @@ unfolding firstBad
 firstBad-alike p q step n same zero at h = refl
 firstBad-alike p q step n same (suc k) at h =
     rw (same at (omega arith), firstBad-alike p q step n same k (at + step) (omega arith))
-
--- a byte that is there
-byte-there : (s : List ℕ) (at : ℕ) → at + 1 ≤ length s → byteField s (cursor at) ≡ fine (byteAt s at, cursor (at + 1))
-unfolding byteField present
-byte-there s at h = rw (le-leb (at + 1) (length s) h)
 
 -- where reading stands after code sections, of 2 + 4,096 bytes at most each
 module _ (locks variables : ℕ) (s : List ℕ) where

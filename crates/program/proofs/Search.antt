@@ -3,6 +3,7 @@
 --     firstBad-bad       a bad one ends the search
 --     firstBad-end       none is left
 --     firstBad-nowhere   a search that ends nowhere found each offset good
+--     firstBad-all       a search over offsets that are all good ends nowhere
 use Prim.Native.Nat.{ℕ, zero, suc, _+_, _-_, _*_, _<_, _≤_}
 use mathlib.Core.Path.{_≡_, refl}
 use mathlib.Core.Bool.{Bool, true, false}
@@ -48,3 +49,14 @@ module _ (good : ℕ → Bool) (step : ℕ) where
   firstBad-nowhere (suc n) at e (suc i) h =
       let o : at + step * suc i ≡ at + step + step * i = rw mul-suc (omega arith) in
       rw o (firstBad-nowhere n (at + step) (test-held (good at) (firstBad good step n (at + step)) at e .1) i (omega arith))
+
+  -- a search over offsets that are all good ends nowhere
+  pub firstBad-all : (n at : ℕ) → ((i : ℕ) → i < n → good (at + step * i) ≡ true) → firstBad good step n at ≡ Nowhere
+  unfolding firstBad
+  firstBad-all zero at h = refl
+  firstBad-all (suc n) at h =
+      let here : at + step * 0 ≡ at = rw mul-zero (omega arith) in
+      rw (rw here at (h 0 (omega arith)))
+      (firstBad-all n (at + step) (λ i l.
+      let there : at + step + step * i ≡ at + step * suc i = rw mul-suc (omega arith) in
+      rw there (h (suc i) (omega arith))))

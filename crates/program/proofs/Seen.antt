@@ -69,5 +69,5 @@ unnamed-local i h = cases i (seen i) (one-of-all (λ k. not (isNamed k)) (tagOf 
     cases (Else n) seen-else e = absurd (true≢false (sym e))
     cases (While a n) seen-while e = absurd (true≢false (sym e))
     cases (Again n) seen-again e = absurd (true≢false (sym e))
-    cases (Atomic n) seen-atomic e = absurd (true≢false (sym e))
+    cases (Atomic a n) seen-atomic e = absurd (true≢false (sym e))
     cases End seen-end e = absurd (true≢false (sym e))

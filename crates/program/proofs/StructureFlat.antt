@@ -10,7 +10,7 @@ use lib.ListN.{length, getD, take, drop, length-append}
 use lib.Seq.{take-at, getD-at, drop-append-add, drop-drop}
 use Rattle.program.specs.declared.instruction.Instruction.{Instruction}
 use Rattle.program.specs.declared.instruction.Instruction.the-variants.{Else, Again, End}
-use Rattle.program.specs.View.{Plain, formOf}
+use Rattle.program.specs.View.{Plain, formOf, statementOf}
 use Rattle.program.specs.Code.{Code, done, plain, choice, loop, block, size, elseDistance, structure, structured}
 use Rattle.program.specs.Internal.WellFormed.{flat, WellFormed}
 
@@ -21,7 +21,7 @@ length-flat done = refl
 length-flat (plain i c) = omega (arith, length-flat c)
 length-flat (choice r a b c) = simp (length-append, length-flat a, length-flat b, length-flat c) (omega arith)
 length-flat (loop r a c) = simp (length-append, length-flat a, length-flat c) (omega arith)
-length-flat (block a c) = simp (length-append, length-flat a, length-flat c) (omega arith)
+length-flat (block stated a c) = simp (length-append, length-flat a, length-flat c) (omega arith)
 
 -- the part that a distance measures off, the closer behind it, and what is behind the closer
 take-flat : (c : Code) (is : List Instruction) → take (size c + 1 - 1) (flat c ++ is) ≡ flat c
@@ -40,7 +40,7 @@ structure-plain i is k e = rw (e, structure)
 
 -- read back, the flat writing gives the code; whatever bounds the recursion, if it is at least the length
 structure-flat : (c : Code) (k : ℕ) → WellFormed c → size c ≤ k → structure k (flat c) ≡ c
-unfolding structure flat size WellFormed formOf elseDistance
+unfolding structure flat size WellFormed formOf statementOf elseDistance
 structure-flat done zero w l = refl
 structure-flat done (suc k) w l = refl
 structure-flat (plain i c) zero w l = absurd (omega arith)
@@ -68,8 +68,8 @@ structure-flat (loop r a c) (suc k) w l =
       structure-flat a k (w .0) (omega arith),
       structure-flat c k (w .1) (omega arith),
     )
-structure-flat (block a c) zero w l = absurd (omega arith)
-structure-flat (block a c) (suc k) w l =
+structure-flat (block stated a c) zero w l = absurd (omega arith)
+structure-flat (block stated a c) (suc k) w l =
     rw (take-flat a (End ∷ flat c), drop-flat a End (flat c), structure-flat a k (w .0) (omega arith), structure-flat c k (w .1) (omega arith))
 
 -- so the flat writing of two codes differs if they do

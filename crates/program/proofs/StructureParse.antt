@@ -68,10 +68,10 @@ split-loop : (r n : ℕ) (a c : Code) (after rest is : List Instruction) → n �
 unfolding flat
 split-loop r n a c after rest is e f g = rw (← f, ← g, e, append-assoc)
 
-split-block : (n : ℕ) (a c : Code) (after rest is : List Instruction) → n ≡ size a + 1 → flat a ++ (instruction.End ∷ after) ≡ is → flat c ++ rest ≡ after
-    → flat (block a c) ++ rest ≡ instruction.Atomic n ∷ is
+split-block : (stated n : ℕ) (a c : Code) (after rest is : List Instruction) → n ≡ size a + 1 → flat a ++ (instruction.End ∷ after) ≡ is → flat c ++ rest ≡ after
+    → flat (block stated a c) ++ rest ≡ instruction.Atomic stated n ∷ is
 unfolding flat
-split-block n a c after rest is e f g = rw (← f, ← g, e, append-assoc)
+split-block stated n a c after rest is e f g = rw (← f, ← g, e, append-assoc)
 
 split-choice : (r n m : ℕ) (a b c : Code) (after after′ rest is : List Instruction) → n ≡ size a + 1 → m ≡ size b + 1
     → flat a ++ (instruction.Else m ∷ after) ≡ is → flat b ++ (instruction.End ∷ after′) ≡ after → flat c ++ rest ≡ after′
@@ -116,12 +116,12 @@ module _ {p : ℕ} {is : List Instruction} {es : List Entry} where
     stops = subst (λ (q : ℕ). Closes q (c .rest) es) (omega arith) (c .stops);
   }
 
-  join-block : (n : ℕ) (a : Body (suc p) (p + n) is es es instruction.End) → Parsed (suc (p + n)) (a .after) es → Parsed p (instruction.Atomic n ∷ is) es
+  join-block : (stated n : ℕ) (a : Body (suc p) (p + n) is es es instruction.End) → Parsed (suc (p + n)) (a .after) es → Parsed p (instruction.Atomic stated n ∷ is) es
   unfolding size depth WellFormed
-  join-block n a c = record {
-    code = block (a .code) (c .code);
+  join-block stated n a c = record {
+    code = block stated (a .code) (c .code);
     rest = c .rest;
-    split = split-block n (a .code) (c .code) (a .after) (c .rest) is (omega arith) (a .split) (c .split);
+    split = split-block stated n (a .code) (c .code) (a .after) (c .rest) is (omega arith) (a .split) (c .split);
     well-formed = (a .well-formed, c .well-formed);
     shallow = omega arith;
     stops = subst (λ (q : ℕ). Closes q (c .rest) es) (omega arith) (c .stops);
@@ -145,9 +145,9 @@ parse-turn {p} {es} parser l m (at-if {r} {n} {is = is} s h) =
 parse-turn {p} {es} parser l m (at-while {r} {n} {is = is} s h) =
     let a = body-while (parser (suc p) is (entry.Loop (p + n) n ∷ es) (omega arith) s h) in
     join-loop r n a (parser (suc (p + n)) (a .after) es (omega (arith, body-length a)) m (a .passes))
-parse-turn {p} {es} parser l m (at-atomic {n} {is = is} s h) =
+parse-turn {p} {es} parser l m (at-atomic {a = stated} {n = n} {is = is} s h) =
     let a = body-atomic (parser (suc p) is (entry.Block (p + n) ∷ es) (omega arith) s h) in
-    join-block n a (parser (suc (p + n)) (a .after) es (omega (arith, body-length a)) m (a .passes))
+    join-block stated n a (parser (suc (p + n)) (a .after) es (omega (arith, body-length a)) m (a .passes))
 
 -- whatever the number of instructions
 parse : (k : ℕ) → Parser k

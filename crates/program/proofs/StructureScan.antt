@@ -52,9 +52,9 @@ module _ (p : ℕ) (is : List Instruction) (es : List Entry) where
   unfolding firstBroken nest formOf
   scan-while r n u d l = rw (opens n (entry.Loop (p + n) n) u d l)
 
-  scan-atomic : (n : ℕ) → unnamed p es ≡ true → 0 < n → length es < entryLimit → firstBroken p (Atomic n ∷ is) es ≡ firstBroken (suc p) is (entry.Block (p + n) ∷ es)
+  scan-atomic : (a n : ℕ) → unnamed p es ≡ true → 0 < n → length es < entryLimit → firstBroken p (Atomic a n ∷ is) es ≡ firstBroken (suc p) is (entry.Block (p + n) ∷ es)
   unfolding firstBroken nest formOf
-  scan-atomic n u d l = rw (opens n (entry.Block (p + n)) u d l)
+  scan-atomic a n u d l = rw (opens n (entry.Block (p + n)) u d l)
 
   -- a closer at the place that the innermost entry names closes it
   scan-else : (n : ℕ) → 0 < n → firstBroken p (Else n ∷ is) (entry.Then p ∷ es) ≡ firstBroken (suc p) is (entry.Else (p + n) ∷ es)
@@ -99,10 +99,10 @@ scan-flat (loop r a c) p q rest es e w d b =
     ∙ scan-flat a (suc p) (p + n) (Again n ∷ (flat c ++ rest)) (entry.Loop (p + n) n ∷ es) (omega arith) (w .0) (omega arith) (omega arith)
     ∙ scan-again (p + n) (flat c ++ rest) es n (omega arith)
     ∙ scan-flat c (suc (p + n)) q rest es (omega arith) (w .1) (omega arith) b)
-scan-flat (block a c) p q rest es e w d b =
+scan-flat (block stated a c) p q rest es e w d b =
     let n = size a + 1 in
     rw (append-assoc (flat a) (End ∷ flat c) rest)
-    (scan-atomic p (flat a ++ (End ∷ (flat c ++ rest))) es n (unnamed-before p q es (omega arith) b) (omega arith) (omega arith)
+    (scan-atomic p (flat a ++ (End ∷ (flat c ++ rest))) es stated n (unnamed-before p q es (omega arith) b) (omega arith) (omega arith)
     ∙ scan-flat a (suc p) (p + n) (End ∷ (flat c ++ rest)) (entry.Block (p + n) ∷ es) (omega arith) (w .0) (omega arith) (omega arith)
     ∙ scan-block-end (p + n) (flat c ++ rest) es
     ∙ scan-flat c (suc (p + n)) q rest es (omega arith) (w .1) (omega arith) b)

@@ -107,5 +107,5 @@ comes-to p (i ∷ is) es h = cases i (seen i) h
     cases (Else n) seen-else h = closes (turn-else p is n es h)
     cases (While a n) seen-while h = let t = turn-open p is es n (entry.Loop (p + n) n) h in at-while (t .0) (t .1)
     cases (Again n) seen-again h = closes (turn-again p is n es h)
-    cases (Atomic n) seen-atomic h = let t = turn-open p is es n (entry.Block (p + n)) h in at-atomic (t .0) (t .1)
+    cases (Atomic a n) seen-atomic h = let t = turn-open p is es n (entry.Block (p + n)) h in at-atomic (t .0) (t .1)
     cases End seen-end h = closes (turn-end p is es h)

@@ -4,15 +4,15 @@ use mathlib.Core.List.{List, [], _∷_}
 use lib.ListN.{length, getD, take, drop}
 use Rattle.program.specs.declared.instruction.Instruction.{Instruction}
 use Rattle.program.specs.declared.instruction.Instruction.the-variants as instruction
-use Rattle.program.specs.View.{Form, Plain, If, Else, While, Again, Atomic, End, formOf}
+use Rattle.program.specs.View.{Form, Plain, If, Else, While, Again, Atomic, End, formOf, statementOf}
 
--- each construct carries what follows it
+-- each construct carries what follows it, and a block what its ATOMIC states
 pub data Code : Type 0 where
   done : Code
   plain : Instruction → Code → Code
   choice : ℕ → Code → Code → Code → Code
   loop : ℕ → Code → Code → Code
-  block : Code → Code → Code
+  block : (stated : ℕ) → Code → Code → Code
 
 -- how many instructions it is written with
 unfoldable pub size : Code → ℕ
@@ -20,7 +20,7 @@ size done = 0
 size (plain i c) = 1 + size c
 size (choice r a b c) = 1 + size a + 1 + size b + 1 + size c
 size (loop r a c) = 1 + size a + 1 + size c
-size (block a c) = 1 + size a + 1 + size c
+size (block stated a c) = 1 + size a + 1 + size c
 
 -- the distance of the ELSE at a place
 unfoldable pub elseDistance : Form → ℕ
@@ -45,7 +45,7 @@ structure (suc k) (i ∷ is) = elim (formOf i) [
   | Else n ↦ plain i (structure k is)
   | While r n ↦ loop r (structure k (take (n - 1) is)) (structure k (drop n is))
   | Again n ↦ plain i (structure k is)
-  | Atomic n ↦ block (structure k (take (n - 1) is)) (structure k (drop n is))
+  | Atomic n ↦ block (statementOf i) (structure k (take (n - 1) is)) (structure k (drop n is))
   | End ↦ plain i (structure k is)
 ]
 

@@ -5,7 +5,7 @@ use mathlib.Core.List.{List, [], _∷_}
 use lib.Dec.{ltb, eqb}
 use Rattle.program.specs.Choice.{choose}
 use Rattle.program.specs.Field.{byteAt}
-use Rattle.program.specs.Limits.{registerCount}
+use Rattle.program.specs.Limits.{registerCount, statementLimit}
 use Rattle.program.specs.declared.instruction.Instruction.{Instruction}
 use Rattle.program.specs.declared.instruction.Instruction.the-variants.{Set, Copy, Add, Sub, Less, Read, Write, Take, Give, If, Else, While, Again, Atomic, End}
 
@@ -14,17 +14,19 @@ pub data Decoded : Type 0 where
   Valid : Instruction → Decoded
   Invalid : Decoded
 
--- what a field of an instruction must be: a register, variable or lock that there is, 0, or a part of n
+-- what a field of an instruction must be: a register, variable or lock that there is, 0, a part of n, or what an ATOMIC can state
 pub data FieldKind : Type 0 where
-  register variable lock zero part : FieldKind
+  register variable lock zero part statement : FieldKind
 
--- "Registers are r0 to r7"; "Every lock, variable .. named must lie below its count"; "A field not mentioned is 0"
+-- "Registers are r0 to r7"; "Every lock, variable .. named must lie below its count"; "A field not mentioned is 0"; "Field a of ATOMIC may
+-- hold the report byte of its block's atomicity, 1 to 4; 0 means not stated"
 abbrev pub isRight : (locks variables : ℕ) → FieldKind → ℕ → Bool
 isRight locks variables register x = ltb x registerCount
 isRight locks variables variable x = ltb x variables
 isRight locks variables lock x = ltb x locks
 isRight locks variables zero x = eqb x 0
 isRight locks variables part x = true
+isRight locks variables statement x = ltb x statementLimit
 
 -- a row of the table: op code, what its fields a, b, c must be, the instruction
 pub record TableRow : Type 0 where
@@ -54,11 +56,11 @@ table a b c =
     ∷ row 0x31 zero part part (Else n)
     ∷ row 0x32 register part part (While a n)
     ∷ row 0x33 zero part part (Again n)
-    ∷ row 0x34 zero part part (Atomic n)
+    ∷ row 0x34 statement part part (Atomic a n)
     ∷ row 0x35 zero zero zero End
     ∷ []
 
--- "7: unknown op, or a register, variable, lock or zero field wrong"
+-- "7: unknown op, or a register, variable, lock, statement or zero field wrong"
 abbrev pub isRightRow : (locks variables a b c : ℕ) → TableRow → Bool
 isRightRow locks variables a b c r = isRight locks variables (r .a) a && isRight locks variables (r .b) b && isRight locks variables (r .c) c
 

@@ -10,6 +10,7 @@
 --     Seen         what proofs ask of each instruction: its view, and the registers that it names
 --     Sound        what a sound file is known to hold
 --     Sections     the table of sections
+--     Unstated     instructions, codes and programs with their statements taken out
 pub mod Bounds
 pub mod Answered
 pub mod Rows
@@ -21,3 +22,4 @@ pub mod Marks
 pub mod Seen
 pub mod Sound
 pub mod Sections
+pub mod Unstated

@@ -11,6 +11,7 @@
 --     Layout       the whole file, front to back, and its contents
 --     Writers      the threads that write a variable
 --     Code         structured code
+--     Unstated     a file with its statements taken out
 -- Internal holds what only proofs and inner functions use.
 pub mod Limits
 pub mod Refusal
@@ -24,4 +25,5 @@ pub mod Nesting
 pub mod Layout
 pub mod Writers
 pub mod Code
+pub mod Unstated
 pub mod Internal

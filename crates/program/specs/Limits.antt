@@ -48,6 +48,10 @@ largestFile = recordOffset variableLimit + threadLimit * (2 + codeSectionLimit)
 abbrev pub registerCount : ℕ
 registerCount = 8
 
+-- "`statement` means a value from 0 to 4": field a of ATOMIC lies below this
+abbrev pub statementLimit : ℕ
+statementLimit = 5
+
 -- "a 17th entry opens": the entries open at once
 abbrev pub entryLimit : ℕ
 entryLimit = 16

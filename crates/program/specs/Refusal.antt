@@ -1,7 +1,7 @@
 -- Each refusal's number and detail D (the standard, "Who can bring a number about").
 use Prim.Native.Nat.{ℕ}
 use Rattle.program.specs.declared.refusal.Refusal.{Refusal}
-use Rattle.program.specs.declared.refusal.Refusal.the-variants.{Missing, Version, Count, Length, LeftOver, Record, Instruction, Nesting, Access, Taken, NotTaken, SetsDiffer, NotAtomic, LongList, ThreadNumber, ShortBuffer, LineNumber}
+use Rattle.program.specs.declared.refusal.Refusal.the-variants.{Missing, Version, Count, Length, LeftOver, Record, Instruction, Nesting, Access, Taken, NotTaken, SetsDiffer, NotAtomic, LongList, ThreadNumber, ShortBuffer, LineNumber, FalseStatement}
 
 -- "Each refusal returns its number and one detail D"
 abbrev pub numberAndDetail : Refusal → ℕ × ℕ
@@ -22,6 +22,7 @@ numberAndDetail (LongList d) = (14, d)
 numberAndDetail (ThreadNumber d) = (15, d)
 numberAndDetail (ShortBuffer d) = (16, d)
 numberAndDetail (LineNumber d) = (17, d)
+numberAndDetail (FalseStatement d) = (18, d)
 
 abbrev pub numberOf : Refusal → ℕ
 numberOf r = numberAndDetail r .0

@@ -24,7 +24,7 @@ pub enum Instruction {
     Else(u16),
     While(u8, u16),
     Again(u16),
-    Atomic(u16),
+    Atomic(u8, u16),
     End,
 }
 
@@ -326,7 +326,7 @@ pub fn limits_of(locks: usize, variables: usize) -> [u16; 96]
         1,
         8,
         1,
-        1,
+        5,
         1,
         0,
         0,
@@ -451,7 +451,7 @@ pub fn instruction_of(row: u8, a: u8, b: u8, c: u8) -> Instruction
         11 => Instruction::Else(n),
         12 => Instruction::While(a, n),
         13 => Instruction::Again(n),
-        14 => Instruction::Atomic(n),
+        14 => Instruction::Atomic(a, n),
         _ => Instruction::End,
     }
 }

@@ -38,12 +38,14 @@ pub enum Refusal {
     ShortBuffer(usize),
     // 17: no such line.
     LineNumber(usize),
+    // 18: a false statement.
+    FalseStatement(usize),
 }
 
 // Its number.
 pub fn number(r: Refusal) -> usize
     ensures { λ n. ⌜ n ≡ numberOf r ⌝ }
-    ensures { λ n. ⌜ n < 18 ⌝ }
+    ensures { λ n. ⌜ n < 19 ⌝ }
 {
     match r {
         Refusal::Missing(_) => 1,
@@ -63,6 +65,7 @@ pub fn number(r: Refusal) -> usize
         Refusal::ThreadNumber(_) => 15,
         Refusal::ShortBuffer(_) => 16,
         Refusal::LineNumber(_) => 17,
+        Refusal::FalseStatement(_) => 18,
     }
 }
 
@@ -88,5 +91,6 @@ pub fn detail(r: Refusal) -> usize
         Refusal::ThreadNumber(d) => d,
         Refusal::ShortBuffer(d) => d,
         Refusal::LineNumber(d) => d,
+        Refusal::FalseStatement(d) => d,
     }
 }

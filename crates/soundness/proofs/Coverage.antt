@@ -92,9 +92,9 @@ module _ {L : Type 0} {f : L → Bool} where
   says-plain {b} {l} c e s = says-cons false (λ w q h. c w q) e (subst (λ (b : Bool). Says f b l) (sym (or-false b)) s)
 
   -- an ATOMIC, and what it covers
-  says-atomic : {b : Bool} {x : L} {l : List (Row L)} (n : ℕ) → length l ≡ n → f x ≡ b → Says f true l → Says f b (row (Atomic n) x ∷ l)
+  says-atomic : {b : Bool} {x : L} {l : List (Row L)} (a n : ℕ) → length l ≡ n → f x ≡ b → Says f true l → Says f b (row (Atomic a n) x ∷ l)
   unfolding covers formOf
-  says-atomic {b} {l} n len e s =
+  says-atomic {b} {l} a n len e s =
       says-cons true (λ w q h. rw (lt-ltb w q h, len)) e (subst (λ (b : Bool). Says f b l) (sym (or-true b)) s)
 
   says-append : {b : Bool} {l k : List (Row L)} → Says f b l → Says f b k → Says f b (l ++ k)
@@ -134,15 +134,15 @@ module _ {p : Program} {t : ℕ} where
       let n = inner-behind m (closure x) ∙ e in
       says-plain (λ w q. refl) n (says-append (coverage d₁ _ n)
       (says-plain (λ w q. refl) (inner-behind (behind m (closure x)) x ∙ n) (coverage d _ n)))
-  coverage {s} (typed-block {a} {s′} {x} d₁ top d) m {b} e =
+  coverage {s} (typed-block {n} {a} {s′} {x} d₁ top stated d) m {b} e =
       let body = labelled d₁ (entered m) in
       let end = row End (label s′ (behind (entered m) x)) in
       let inside : Says insideBlock true (rows body ++ (end ∷ [])) =
       says-append (coverage d₁ (entered m) (inner-entered m))
       (says-plain {i = End} (λ w q. refl) (inner-behind (entered m) x ∙ inner-entered m) (says-nil true)) in
       let len = length-append (rows body) (end ∷ []) in
-      subst (λ (l : List (Row Label)). Says insideBlock b (row (Atomic (size a + 1)) (label s m) ∷ l)) (append-snoc (rows body) end (rows (labelled d (behind m x))))
-      (says-append (says-atomic (size a + 1) (omega (arith, length-rows body)) e inside) (coverage d _ (inner-behind m x ∙ e)))
+      subst (λ (l : List (Row Label)). Says insideBlock b (row (Atomic n (size a + 1)) (label s m) ∷ l)) (append-snoc (rows body) end (rows (labelled d (behind m x))))
+      (says-append (says-atomic n (size a + 1) (omega (arith, length-rows body)) e inside) (coverage d _ (inner-behind m x ∙ e)))
 
   -- standing inside: the block that the code is begun in, or one of its own
   pub covered-at : {s s′ : LockSet} {c : Code} {a : Atomicity} (d : Typed p t s c s′ a) (m : Prefix) (next : Label) → isInner (next .prefix) ≡ isInner m

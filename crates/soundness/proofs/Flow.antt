@@ -48,7 +48,7 @@ module _ {p : Program} {t : ℕ} where
   begun {s} (typed-plain f l d) m next exit = leads-exactly s m
   begun {s} (typed-choice d₁ d₂ d) m next exit = leads-exactly s m
   begun {s} (typed-loop {x} d₁ d) m next exit = leads-below (below-behind m (closure x))
-  begun {s} (typed-block d₁ n d) m next exit = leads-exactly s m
+  begun {s} (typed-block d₁ n stated d) m next exit = leads-exactly s m
 
   -- ---- one move
 
@@ -109,12 +109,12 @@ module _ {p : Program} {t : ℕ} where
       (all-cons (goes-on-silent (Again (size a + 1)) _ refl proper₁ (leads-below (below-turn m x)))
       (all-append (flow d₁ n _ exit₁ proper₁)
       (flow d n next exit₂ (proper-then m (closure x) z proper)))))
-  flow {s} (typed-block {a} {s′} {x} {z} d₁ top d) m next exit proper =
+  flow {s} (typed-block {n} {a} {s′} {x} {z} d₁ top stated d) m next exit proper =
       let proper₀ = proper-first m x z proper in
       let exit₁ = leads-exactly s′ (behind (entered m) x) in
       let start₁ = begun d₁ (entered m) _ exit₁ in
       let start = begun d (behind m x) next (leads-then m x z exit) in
-      all-cons (silent (Atomic (size a + 1)) _ refl (start₁ .same-locks) (goes-in m (start₁ .below) (proper-below (below-behind m x) proper₀)))
+      all-cons (silent (Atomic n (size a + 1)) _ refl (start₁ .same-locks) (goes-in m (start₁ .below) (proper-below (below-behind m x) proper₀)))
       (all-cons (silent End _ refl (start .same-locks) (goes-out m x (start .below) proper₀))
       (all-append (flow d₁ (entered m) _ exit₁ (proper-entered m x top proper₀))
       (flow d (behind m x) next (leads-then m x z exit) (proper-then m x z proper))))

@@ -8,7 +8,7 @@ use Prim.Native.Nat.{ℕ}
 use mathlib.Core.Bool.{true, false}
 use Rattle.atomicity.specs.Atomicity.{by}
 use Rattle.atomicity.specs.declared.Atomicity.{Atomicity}
-use Rattle.program.specs.View.{Access, none, reads, writes, takes, gives, accessOf, formOf, Form}
+use Rattle.program.specs.View.{Access, none, reads, writes, takes, gives, accessOf, formOf, statementOf, Form}
 use Rattle.program.specs.Choice.{choose}
 use Rattle.program.specs.Layout.{Program}
 use Rattle.program.specs.View as form
@@ -32,15 +32,15 @@ accessEffect p c d (writes v a) s = choose (permits (kindAt p v) c s true) (pass
 accessEffect p c d (takes k) s = choose (holds s k) (Refused (refusal.Taken d)) (Takes k)
 accessEffect p c d (gives k) s = choose (holds s k) (Gives k) (Refused (refusal.NotTaken d))
 
--- an opener or a closer; a plain instruction has this effect
-unfoldable pub formEffect : Form → (plain : Effect) → Effect
-formEffect form.Plain plain = plain
-formEffect (form.If a n) plain = Opens part.Then
-formEffect (form.Else n) plain = Closes
-formEffect (form.While a n) plain = Opens part.Body
-formEffect (form.Again n) plain = Closes
-formEffect (form.Atomic n) plain = Opens part.Block
-formEffect form.End plain = Closes
+-- an opener or a closer, where an ATOMIC states this; a plain instruction has this effect
+unfoldable pub formEffect : Form → (stated : ℕ) → (plain : Effect) → Effect
+formEffect form.Plain stated plain = plain
+formEffect (form.If a n) stated plain = Opens part.Then
+formEffect (form.Else n) stated plain = Closes
+formEffect (form.While a n) stated plain = Opens part.Body
+formEffect (form.Again n) stated plain = Closes
+formEffect (form.Atomic n) stated plain = Opens (part.Block stated)
+formEffect form.End stated plain = Closes
 
 unfoldable pub effectOf : Program → (c d : ℕ) → Instruction → LockSet → Effect
-effectOf p c d i s = formEffect (formOf i) (accessEffect p c d (accessOf i) s)
+effectOf p c d i s = formEffect (formOf i) (statementOf i) (accessEffect p c d (accessOf i) s)

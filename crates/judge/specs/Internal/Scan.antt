@@ -23,8 +23,8 @@ use Rattle.program.specs.Layout.{Program, CodeSection}
 use Rattle.program.specs.Limits.{instructionSize}
 use Rattle.program.specs.Internal.Stack.{stackOf}
 use Rattle.program.specs.declared.instruction.Instruction.{Instruction}
-use Rattle.program.specs.declared.refusal.Refusal.the-variants.{SetsDiffer, NotAtomic}
-use Rattle.judge.specs.Judging.{isTop}
+use Rattle.program.specs.declared.refusal.Refusal.the-variants.{SetsDiffer, NotAtomic, FalseStatement}
+use Rattle.judge.specs.Judging.{isTop, statesTruly}
 use Rattle.judge.specs.LockSet.{empty, same, withLock, withoutLock}
 use Rattle.judge.specs.Internal.Effect.{effectOf}
 use Rattle.judge.specs.declared.effect.Effect.{Effect}
@@ -53,7 +53,7 @@ carried s a fs report = record { locks = s; sofar = a; frames = fs; report = rep
 
 -- a frame that nothing reads
 unfoldable pub noFrame : Frame
-noFrame = record { part = Block; opener = 0; locks = empty; first = atomicity.Both; before = atomicity.Both }
+noFrame = record { part = Body; opener = 0; locks = empty; first = atomicity.Both; before = atomicity.Both }
 
 -- the frame that an opener opens, whose byte stands at `at` in the report
 abbrev pub openedFrame : Part → (at : ℕ) → LockSet → Atomicity → Frame
@@ -73,15 +73,15 @@ elseEnd d f s a = choose (same (f .locks) s) (Whole (join (f .first) a)) (Refuse
 abbrev pub bodyEnd : (d : ℕ) → Frame → LockSet → Atomicity → Closed
 bodyEnd d f s a = choose (same (f .locks) s) (Whole (closure a)) (Refused (SetsDiffer d))
 
--- an ATOMIC's END: "ATOMIC has its body's atomicity, which must not be T"
-abbrev pub blockEnd : (d : ℕ) → Atomicity → Closed
-blockEnd d a = choose (not (isTop a)) (Whole a) (Refused (NotAtomic d))
+-- an ATOMIC's END: "ATOMIC has its body's atomicity, which must not be T"; "A stated value must be exactly the one worked out"
+abbrev pub blockEnd : (stated d : ℕ) → Atomicity → Closed
+blockEnd stated d a = choose (not (isTop a)) (choose (statesTruly stated a) (Whole a) (Refused (FalseStatement d))) (Refused (NotAtomic d))
 
 abbrev pub endOf : Part → (d : ℕ) → Frame → LockSet → Atomicity → Closed
 endOf Then d f s a = Other
 endOf Else d f s a = elseEnd d f s a
 endOf Body d f s a = bodyEnd d f s a
-endOf Block d f s a = blockEnd d a
+endOf (Block stated) d f s a = blockEnd stated d a
 
 -- The walk
 

@@ -13,8 +13,8 @@ use mathlib.Core.List.{List, [], _∷_, _++_, map}
 use lib.ListN.{getD, take, replicate}
 use lib.Dec.{ltb, eqb}
 use Rattle.program.specs.Choice.{choose}
-use Rattle.program.specs.Instruction.{FieldKind, register, variable, lock, zero as zeroField, part, TableRow, table}
-use Rattle.program.specs.Limits.{registerCount, variableLimit}
+use Rattle.program.specs.Instruction.{FieldKind, register, variable, lock, zero as zeroField, part, statement, TableRow, table}
+use Rattle.program.specs.Limits.{registerCount, statementLimit, variableLimit}
 
 -- the number of an op code's row, where the first row has number n
 abbrev pub position : (op n : ℕ) → List TableRow → ℕ
@@ -38,6 +38,7 @@ limitOf locks variables variable = variables
 limitOf locks variables lock = locks
 limitOf locks variables zeroField = 1
 limitOf locks variables part = 256
+limitOf locks variables statement = statementLimit
 
 -- one field of all rows, and its limits, 32 of them: 0 for row 0, then the rows, then 0
 abbrev pub kinds : (TableRow → FieldKind) → List FieldKind

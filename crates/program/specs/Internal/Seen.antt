@@ -21,7 +21,7 @@ pub data Seen : Instruction → Type 0 where
   seen-else : {n : ℕ} → Seen (Else n)
   seen-while : {a n : ℕ} → Seen (While a n)
   seen-again : {n : ℕ} → Seen (Again n)
-  seen-atomic : {n : ℕ} → Seen (Atomic n)
+  seen-atomic : {a n : ℕ} → Seen (Atomic a n)
   seen-end : Seen End
 
 abbrev pub seen : (i : Instruction) → Seen i
@@ -38,7 +38,7 @@ seen (If a n) = seen-if
 seen (Else n) = seen-else
 seen (While a n) = seen-while
 seen (Again n) = seen-again
-seen (Atomic n) = seen-atomic
+seen (Atomic a n) = seen-atomic
 seen End = seen-end
 
 -- "Registers are r0 to r7"

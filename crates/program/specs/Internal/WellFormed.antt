@@ -27,7 +27,7 @@ flat done = []
 flat (plain i c) = i ∷ flat c
 flat (choice r a b c) = instruction.If r (size a + 1) ∷ flat a ++ (instruction.Else (size b + 1) ∷ flat b ++ (instruction.End ∷ flat c))
 flat (loop r a c) = instruction.While r (size a + 1) ∷ flat a ++ (instruction.Again (size a + 1) ∷ flat c)
-flat (block a c) = instruction.Atomic (size a + 1) ∷ flat a ++ (instruction.End ∷ flat c)
+flat (block stated a c) = instruction.Atomic stated (size a + 1) ∷ flat a ++ (instruction.End ∷ flat c)
 
 -- each plain instruction is neither an opener nor a closer
 unfoldable pub WellFormed : Code → Type 0
@@ -35,7 +35,7 @@ WellFormed done = Unit
 WellFormed (plain i c) = (formOf i ≡ Plain) × WellFormed c
 WellFormed (choice r a b c) = WellFormed a × WellFormed b × WellFormed c
 WellFormed (loop r a c) = WellFormed a × WellFormed c
-WellFormed (block a c) = WellFormed a × WellFormed c
+WellFormed (block stated a c) = WellFormed a × WellFormed c
 
 -- how many entries are open at once, at most
 unfoldable pub depth : Code → ℕ
@@ -43,7 +43,7 @@ depth done = 0
 depth (plain i c) = depth c
 depth (choice r a b c) = max (suc (max (depth a) (depth b))) (depth c)
 depth (loop r a c) = max (suc (depth a)) (depth c)
-depth (block a c) = max (suc (depth a)) (depth c)
+depth (block stated a c) = max (suc (depth a)) (depth c)
 
 -- these instructions write out this code, and no 17th entry opens
 pub record Writes (is : List Instruction) (c : Code) : Type 0 where
@@ -77,8 +77,8 @@ pub data ComesTo (p : ℕ) : List Instruction → List Entry → Type 0 where
       → ComesTo p (instruction.If r n ∷ is) es
   at-while : {r n : ℕ} {is : List Instruction} {es : List Entry} → length es < entryLimit → Passes (suc p) is (entry.Loop (p + n) n ∷ es)
       → ComesTo p (instruction.While r n ∷ is) es
-  at-atomic : {n : ℕ} {is : List Instruction} {es : List Entry} → length es < entryLimit → Passes (suc p) is (entry.Block (p + n) ∷ es)
-      → ComesTo p (instruction.Atomic n ∷ is) es
+  at-atomic : {a n : ℕ} {is : List Instruction} {es : List Entry} → length es < entryLimit → Passes (suc p) is (entry.Block (p + n) ∷ es)
+      → ComesTo p (instruction.Atomic a n ∷ is) es
 
 -- ---- code read from instructions
 

@@ -33,7 +33,7 @@ labelled (typed-choice {s} {s′} {x} {y} d₁ d₂ d) m =
 labelled (typed-loop {s} {x} d₁ d) m =
     let n = behind m (closure x) in
     loop (label s n) (label s (behind n x)) (labelled d₁ n) (labelled d n)
-labelled (typed-block {s} {s′} {x} d₁ n d) m =
+labelled (typed-block {s} {s′} {x} d₁ n stated d) m =
     block (label s m) (label s′ (behind (entered m) x)) (labelled d₁ (entered m)) (labelled d (behind m x))
 
 -- what a move of code t from a row is

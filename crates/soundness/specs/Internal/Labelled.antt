@@ -35,7 +35,7 @@ pub data Tree (L : Type 0) : Code → Type 0 where
   plain : {i : Instruction} {c : Code} (here : L) → formOf i ≡ Plain → Tree L c → Tree L (code.plain i c)
   choice : {r : ℕ} {a b c : Code} (here else end : L) → Tree L a → Tree L b → Tree L c → Tree L (code.choice r a b c)
   loop : {r : ℕ} {a c : Code} (here again : L) → Tree L a → Tree L c → Tree L (code.loop r a c)
-  block : {a c : Code} (here end : L) → Tree L a → Tree L c → Tree L (code.block a c)
+  block : {n : ℕ} {a c : Code} (here end : L) → Tree L a → Tree L c → Tree L (code.block n a c)
 
 -- an instruction with its label
 pub record Row (L : Type 0) : Type 0 where
@@ -62,7 +62,7 @@ module _ {L : Type 0} where
   rows (choice {r} {a} {b} x y z u v w) =
       row (If r (size a + 1)) x ∷ rows u ++ (row (Else (size b + 1)) y ∷ rows v ++ (row End z ∷ rows w))
   rows (loop {r} {a} x y u v) = row (While r (size a + 1)) x ∷ rows u ++ (row (Again (size a + 1)) y ∷ rows v)
-  rows (block {a} x y u v) = row (Atomic (size a + 1)) x ∷ rows u ++ (row End y ∷ rows v)
+  rows (block {n} {a} x y u v) = row (Atomic n (size a + 1)) x ∷ rows u ++ (row End y ∷ rows v)
 
   -- the label at a place; `next` is the one behind the code
   abbrev pub labelAt : {c : Code} → Tree L c → (next : L) → ℕ → L
@@ -88,8 +88,8 @@ module _ {L : Type 0} where
       edge (While r (size a + 1)) x (if-not-zero r) (begins u y) ∷ edge (While r (size a + 1)) x (if-zero r) (begins v next)
       ∷ edge (Again (size a + 1)) y always x
       ∷ edges u y ++ edges v next
-  edges (block {a} x y u v) next =
-      edge (Atomic (size a + 1)) x always (begins u y) ∷ edge End y always (begins v next) ∷ edges u y ++ edges v next
+  edges (block {n} {a} x y u v) next =
+      edge (Atomic n (size a + 1)) x always (begins u y) ∷ edge End y always (begins v next) ∷ edges u y ++ edges v next
 
   -- from a row, with these registers, to a place at or before the last, by an edge that is P and whose condition holds
   pub record Arrives (P : Edge L → Type 0) (labelAt : ℕ → L) (last : ℕ) (from : Row L) (registers : List ℕ) (to : ℕ) : Type 0 where

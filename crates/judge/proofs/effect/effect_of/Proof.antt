@@ -1,6 +1,6 @@
 -- `effect_of` meets its contract. Assumes nothing.
 use mathlib.Core.Path.{_∙_}
-use Rattle.program.specs.View.{accessOf, formOf}
+use Rattle.program.specs.View.{accessOf, formOf, statementOf}
 use Rattle.program.specs.Layout.{programOf}
 use Rattle.program.proofs.Seen.{keysBeside, unnamed-local}
 use Rattle.judge.specs.Internal.Effect.{accessEffect, formEffect, effectOf}
@@ -69,53 +69,53 @@ enum-told-3 c = search needs
 enum-told-4 : tie.Need-enum-told-4
 enum-told-4 c = search needs
 
--- `Instruction::Atomic(_) => Effect::Opens(Part::Block)`
+-- `Instruction::Atomic(stated, _) => Effect::Opens(Part::Block(stated))`
+enum-known-i-5 : tie.Need-enum-known-i-5
+enum-known-i-5 c = search needs
+
+-- `Instruction::End => Effect::Closes`
 enum-told-5 : tie.Need-enum-told-5
 enum-told-5 c = search needs
 
--- `Instruction::End => Effect::Closes`
-enum-told-6 : tie.Need-enum-told-6
-enum-told-6 c = search needs
-
 returns : tie.Need-returns
-unfolding effectOf formEffect formOf accessEffect accessOf
+unfolding effectOf formEffect formOf statementOf accessEffect accessOf
 returns c s l code tables below = rw (c .before .before .before .i .given .1) (c .by-rule .ensures ∙ tables .reading _ (rw (c .before .before .before .i .given .1) at below) _ _)
 
 returns-2 : tie.Need-returns-2
-unfolding effectOf formEffect formOf accessEffect accessOf
+unfolding effectOf formEffect formOf statementOf accessEffect accessOf
 returns-2 c s l code tables below = rw (c .before .before .before .i2 .given .1) (c .by-rule2 .ensures ∙ tables .writing _ (c .before .before .before .i2 .given .0 .0) (rw (c .before .before .before .i2 .given .1) at below) _ _)
 
 returns-3 : tie.Need-returns-3
-unfolding effectOf formEffect formOf accessEffect accessOf
+unfolding effectOf formEffect formOf statementOf accessEffect accessOf
 returns-3 c s l code tables below = rw (c .before .before .i3 .given .1) (c .taking .ensures)
 
 returns-4 : tie.Need-returns-4
-unfolding effectOf formEffect formOf accessEffect accessOf
+unfolding effectOf formEffect formOf statementOf accessEffect accessOf
 returns-4 c s l code tables below = rw (c .before .before .i4 .given .1) (c .giving .ensures)
 
 returns-5 : tie.Need-returns-5
-unfolding effectOf formEffect formOf accessEffect accessOf
+unfolding effectOf formEffect formOf statementOf accessEffect accessOf
 returns-5 c s l code tables below = rw (c .enum-told .given .1)
 
 returns-6 : tie.Need-returns-6
-unfolding effectOf formEffect formOf accessEffect accessOf
+unfolding effectOf formEffect formOf statementOf accessEffect accessOf
 returns-6 c s l code tables below = rw (c .enum-told2 .given .1)
 
 returns-7 : tie.Need-returns-7
-unfolding effectOf formEffect formOf accessEffect accessOf
+unfolding effectOf formEffect formOf statementOf accessEffect accessOf
 returns-7 c s l code tables below = rw (c .enum-told3 .given .1)
 
 returns-8 : tie.Need-returns-8
-unfolding effectOf formEffect formOf accessEffect accessOf
+unfolding effectOf formEffect formOf statementOf accessEffect accessOf
 returns-8 c s l code tables below = rw (c .enum-told4 .given .1)
 
 returns-9 : tie.Need-returns-9
-unfolding effectOf formEffect formOf accessEffect accessOf
-returns-9 c s l code tables below = rw (c .enum-told5 .given .1)
+unfolding effectOf formEffect formOf statementOf accessEffect accessOf
+returns-9 c s l code tables below = rw (c .before .i5 .given .1)
 
 returns-10 : tie.Need-returns-10
-unfolding effectOf formEffect formOf accessEffect accessOf
-returns-10 c s l code tables below = rw (c .enum-told6 .given .1)
+unfolding effectOf formEffect formOf statementOf accessEffect accessOf
+returns-10 c s l code tables below = rw (c .enum-told5 .given .1)
 
 returns-11 : tie.Need-returns-11
 unfolding accessEffect keysBeside
@@ -143,8 +143,8 @@ effect-of-spec =
     enum-told-2
     enum-told-3
     enum-told-4
+    enum-known-i-5
     enum-told-5
-    enum-told-6
     returns
     returns-2
     returns-3

@@ -21,9 +21,9 @@ enum-told-3 c = search needs
 body-end-requires : tie.Need-body-end-requires
 body-end-requires c κs = search needs
 
--- `Part::Block => block_end(d, sofar)`
-enum-told-4 : tie.Need-enum-told-4
-enum-told-4 c = search needs
+-- `Part::Block(stated) => block_end(stated, d, sofar)`
+enum-known-part : tie.Need-enum-known-part
+enum-known-part c = search needs
 
 block-end-requires : tie.Need-block-end-requires
 block-end-requires c κs = search needs
@@ -38,7 +38,7 @@ returns-3 : tie.Need-returns-3
 returns-3 c = rw (c .body-end .ensures, c .before .enum-told3 .given .1)
 
 returns-4 : tie.Need-returns-4
-returns-4 c = rw (c .block-end .ensures, c .before .enum-told4 .given .1)
+returns-4 c = rw (c .block-end .ensures, c .before .before .part .given .1)
 
 pub part-end-spec : {M : Type 1} → statement M
 part-end-spec =
@@ -49,7 +49,7 @@ part-end-spec =
     else-end-requires
     enum-told-3
     body-end-requires
-    enum-told-4
+    enum-known-part
     block-end-requires
     returns
     returns-2

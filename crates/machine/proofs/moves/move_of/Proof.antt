@@ -78,7 +78,7 @@ returns-13 : tie.Need-returns-13
 unfolding Does accessOf resultOf placeAfter placeBehind formOf
 returns-13 c = rw (c .back .ensures, c .before .before .i13 .given .1) effect-of
 
--- `Instruction::Atomic(_) => Move::Passes`
+-- `Instruction::Atomic(_, _) => Move::Passes`
 returns-14 : tie.Need-returns-14
 unfolding Does accessOf resultOf placeAfter placeBehind formOf
 returns-14 c = rw (c .enum-told .given .1) effect-of

@@ -28,7 +28,7 @@ instruction-words-spec =
     (λ c. search needs) (λ c. refl) (λ c κs. omega (arith, c .before .before .before .before .before .before .pre))
     (λ c. search needs) (λ c. refl) (λ c κs. omega (arith, c .before .before .before .before .before .before .pre))
     (λ c. search needs) (λ c. refl) (λ c κs. omega (arith, c .before .before .before .before .before .before .pre))
-    (λ c. search needs) (λ c. refl) (λ c κs. omega (arith, c .before .before .before .before .before .before .pre))
+    (λ c. search needs) (λ c κs. omega (arith, c .before .before .before .before .before .pre))
     (λ c. search needs) (λ c. refl) (λ c κs. search needs)
     -- a line an arm: the buffer keeps its length, and has the words
     (λ c. c .before .before .name-register-number .kept .0) (λ c. (instruction-words-is (c .before .before .before .before .before .before .i .given .1) (c .before .before .name-register-number .ensures .0), omega arith))
@@ -44,5 +44,5 @@ instruction-words-spec =
     (λ c. c .before .before .name-number .kept .0) (λ c. (instruction-words-is (c .before .before .before .before .before .before .i11 .given .1) (c .before .before .name-number .ensures .0), omega arith))
     (λ c. c .before .before .name-register-number3 .kept .0) (λ c. (instruction-words-is (c .before .before .before .before .before .before .i12 .given .1) (c .before .before .name-register-number3 .ensures .0), omega arith))
     (λ c. c .before .before .name-number2 .kept .0) (λ c. (instruction-words-is (c .before .before .before .before .before .before .i13 .given .1) (c .before .before .name-number2 .ensures .0), omega arith))
-    (λ c. c .before .before .name-number3 .kept .0) (λ c. (instruction-words-is (c .before .before .before .before .before .before .i14 .given .1) (c .before .before .name-number3 .ensures .0), omega arith))
+    (λ c. c .before .before .atomic-words .kept .0) (λ c. (instruction-words-is (c .before .before .before .before .before .i14 .given .1) (c .before .before .atomic-words .ensures .0), omega arith))
     (λ c. search needs) (λ c. search (instruction-words-is, words-last, needs)))

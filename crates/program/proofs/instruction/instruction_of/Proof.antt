@@ -116,7 +116,7 @@ returns-13 c locks variables op e valid =
     let said = row-said locks variables op (x .a) (x .b) (x .c) 12 (sym e ∙ c .match .keys13) valid in
     (said .0, tt)
 
--- `14 => Instruction::Atomic(n)`
+-- `14 => Instruction::Atomic(a, n)`
 returns-14 : tie.Need-returns-14
 returns-14 c locks variables op e valid =
     let x = c .before .args in
