@@ -31,7 +31,7 @@ extern "C" {
 
 /* The version of the standard. (HOGUNLAS_VERSION is a refusal: the version of a file.) */
 #define HOGUNLAS_STANDARD_MAJOR 1
-#define HOGUNLAS_STANDARD_MINOR 2
+#define HOGUNLAS_STANDARD_MINOR 3
 
 /* The limits. */
 #define HOGUNLAS_MAX_FILE 33173  /* bytes of the largest file that is not refused */
@@ -43,7 +43,7 @@ extern "C" {
 
 /*
  * The refusals, and what their detail is. An offset counts the file's bytes from 0; the first
- * offence decides. 1 to 8 come before 9 to 13, and these before 14 to 17.
+ * offence decides. 1 to 8 come before 9 to 13 and 18, and these before 14 to 17.
  */
 enum {
     HOGUNLAS_ANSWERED = 0,
@@ -64,6 +64,7 @@ enum {
     HOGUNLAS_GIVE_OF_NOT_HELD = 11, /* of a lock not in the set; its offset */
     HOGUNLAS_SETS_DIFFER = 12,      /* the END's or AGAIN's offset, or the section's end */
     HOGUNLAS_BLOCK_IS_T = 13,       /* the offset of the block's END */
+    HOGUNLAS_FALSE_STATEMENT = 18,  /* of a block's atomicity; the offset of the block's END */
 
     /* The caller. */
     HOGUNLAS_LIST_TOO_LONG = 14,    /* run; 65,536 */
@@ -82,11 +83,14 @@ typedef struct {
 } hogunlas_judged;
 
 /*
- * Judges a file. Refusals: 1 to 13, then 16.
+ * Judges a file. Refusals: 1 to 13 and 18, then 16.
  *
  * The report has, for each thread, a byte for each instruction (the whole construct's at its
  * opener, 0 at ELSE, AGAIN and END), then a byte for the thread's whole code:
  * B 1 (both mover), L 2 (left mover), R 3 (right mover), A 4 (atomic), T 5 (none of these).
+ *
+ * An ATOMIC whose field a is not 0 states the byte that the report has for it; another byte is
+ * refused (18).
  */
 hogunlas_judged hogunlas_judge(const uint8_t *file, size_t file_length,
                                uint8_t *report, size_t report_length);
@@ -113,7 +117,7 @@ typedef struct {
 
 /*
  * Runs an accepted file from the start; each byte of the list is a step of the thread that it
- * numbers. Refusals: 1 to 13, then 14, then 15, then 16.
+ * numbers. Refusals: 1 to 13 and 18, then 14, then 15, then 16.
  *
  * The end state has, numbers big-endian: 4 bytes for each variable; 1 byte for each lock (0 free,
  * or the holder's thread number plus 1); and for each thread 2 bytes for its place and 4 for each
@@ -137,8 +141,8 @@ typedef struct {
 } hogunlas_printed;
 
 /*
- * Prints line i of an accepted file's printout, counted from 0. Refusals: 1 to 13, then 17, then
- * 16 for a buffer of less than 48 bytes.
+ * Prints line i of an accepted file's printout, counted from 0. Refusals: 1 to 13 and 18, then 17,
+ * then 16 for a buffer of less than 48 bytes.
  *
  * The text ends with its newline; no null character follows it.
  */

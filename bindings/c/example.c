@@ -21,6 +21,11 @@ static const uint8_t unguarded[] = {
     0x10, 0x02, 0x00, 0x00, 0x20, 0x00, 0x00, 0x00, 0x21, 0x00, 0x00, 0x00,
 };
 
+/* One thread, ATOMIC 1 and END: a block that is B. Field a of the ATOMIC states A, 4. */
+static const uint8_t overstated[] = {
+    0x01, 0x00, 0x01, 0x00, 0x00, 0x00, 0x08, 0x34, 0x04, 0x00, 0x01, 0x35, 0x00, 0x00, 0x00,
+};
+
 /* One lock, two threads, no variable; each thread: TAKE k0, GIVE k0. */
 static const uint8_t two_threads[] = {
     0x01, 0x01, 0x02, 0x00, 0x00, 0x00, 0x08, 0x20, 0x00, 0x00, 0x00, 0x21, 0x00,
@@ -58,6 +63,10 @@ static int try_judge(void)
     judged = hogunlas_judge(unguarded, sizeof unguarded, report, sizeof report);
     if (judged.refusal != HOGUNLAS_ACCESS || judged.detail != 13 || judged.length != 0)
         return wrong("READ before TAKE is 9 at 13");
+
+    judged = hogunlas_judge(overstated, sizeof overstated, report, sizeof report);
+    if (judged.refusal != HOGUNLAS_FALSE_STATEMENT || judged.detail != 11 || judged.length != 0)
+        return wrong("a block of B that states A is 18 at its END");
 
     judged = hogunlas_judge(example, 0, report, sizeof report);
     if (judged.refusal != HOGUNLAS_BYTES_MISSING || judged.detail != 0 || judged.length != 0)

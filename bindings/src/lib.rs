@@ -42,7 +42,7 @@ use std::ops::Add;
 pub const STANDARD_MAJOR: u32 = 1;
 
 /// The version of the standard that the calls follow: the number after the point.
-pub const STANDARD_MINOR: u32 = 2;
+pub const STANDARD_MINOR: u32 = 3;
 
 /// The length of the largest file that is not refused.
 pub const MAX_FILE: usize = 33_173;
@@ -66,7 +66,7 @@ pub const LINE_BUFFER: usize = 48;
 /// depends on the number: for most, it is the offset in the file at which the offence lies.
 #[derive(Clone, Copy, Debug, PartialEq, Eq, Hash)]
 pub struct Refusal {
-    /// 1 to 8: the sender of the file; 9 to 13: the program's writer; 14 to 17: the caller.
+    /// 1 to 8: the sender of the file; 9 to 13 and 18: the program's writer; 14 to 17: the caller.
     pub number: u32,
     pub detail: u64,
 }
@@ -98,8 +98,8 @@ impl Error for Refusal {}
 /// The report has, for each thread, a byte for each instruction (0 at ELSE, AGAIN and END) and
 /// then one for the thread's whole code: B 1, L 2, R 3, A 4, T 5.
 ///
-/// Refusals 1 to 13 are the file's; 16 is a buffer shorter than the report, with the bytes needed
-/// as its detail.
+/// Refusals 1 to 13 and 18 are the file's; 16 is a buffer shorter than the report, with the bytes
+/// needed as its detail.
 ///
 /// ```
 /// // TAKE k0, READ r2 v0, GIVE k0
@@ -112,6 +112,21 @@ impl Error for Refusal {}
 ///
 /// let cut = hogunlas::judge(&file[..20], &mut report).unwrap_err();
 /// assert_eq!(cut.to_string(), "refused 1 at 20");
+/// # Ok::<(), hogunlas::Refusal>(())
+/// ```
+///
+/// A block may state the byte that the report has for it, and a false statement is refused:
+///
+/// ```
+/// // ATOMIC 1 B, END: a block that is B, and states it.
+/// let mut file = [1, 0, 1, 0, 0, 0, 8, 0x34, 1, 0, 1, 0x35, 0, 0, 0];
+/// let mut report = [0; hogunlas::MAX_REPORT];
+/// let length = hogunlas::judge(&file, &mut report)?;
+/// assert_eq!(report[..length], [1, 0, 1]);
+///
+/// file[8] = 4; // it states A
+/// let overstated = hogunlas::judge(&file, &mut report).unwrap_err();
+/// assert_eq!(overstated.to_string(), "refused 18 at 11");
 /// # Ok::<(), hogunlas::Refusal>(())
 /// ```
 pub fn judge(file: &[u8], report: &mut [u8]) -> Result<usize, Refusal> {
@@ -162,8 +177,8 @@ impl<'c> Sum<&'c Counts> for Counts {
 /// The end state has 4 bytes for each variable, 1 for each lock (0 free, or the holder's number
 /// plus 1) and 34 for each thread (its place, then its eight registers), numbers big-endian.
 ///
-/// Refusals 1 to 13 are the file's; 14 is a list of more than [`MAX_LIST`] entries, 15 an entry
-/// that names no thread (its index), 16 a buffer shorter than the state (the bytes needed).
+/// Refusals 1 to 13 and 18 are the file's; 14 is a list of more than [`MAX_LIST`] entries, 15 an
+/// entry that names no thread (its index), 16 a buffer shorter than the state (the bytes needed).
 ///
 /// ```
 /// use hogunlas::Counts;
@@ -198,8 +213,8 @@ pub fn run(file: &[u8], list: &[u8], state: &mut [u8]) -> Result<[Counts; MAX_TH
 /// Lays line `i` of an accepted file's printout, its newline included, over the front of `text`
 /// and answers the line's length.
 ///
-/// Refusals 1 to 13 are the file's; 17 is an `i` that is not below the line count (that count), 16
-/// a buffer shorter than [`LINE_BUFFER`].
+/// Refusals 1 to 13 and 18 are the file's; 17 is an `i` that is not below the line count (that
+/// count), 16 a buffer shorter than [`LINE_BUFFER`].
 ///
 /// ```
 /// let file = [

@@ -103,7 +103,7 @@ fn the_structs_are_the_headers() {
     assert_compiled(&compile(&program, &["-fsyntax-only"]));
 }
 
-/// The version that the standard gives itself, by its line `Version 1.2.`.
+/// The version that the standard gives itself, by its line `Version 1.3.`.
 fn standard_version() -> String {
     let page = Path::new(env!("CARGO_MANIFEST_DIR")).join("../docs/STANDARD.md");
     let text = fs::read_to_string(page).expect("docs/STANDARD.md");
@@ -150,6 +150,7 @@ fn the_refusals_are_the_headers() {
         ("THREAD_NUMBER", Refusal::THREAD_NUMBER),
         ("BUFFER_TOO_SHORT", Refusal::BUFFER_TOO_SHORT),
         ("NO_SUCH_LINE", Refusal::NO_SUCH_LINE),
+        ("FALSE_STATEMENT", Refusal::FALSE_STATEMENT),
     ] {
         let line = header
             .lines()

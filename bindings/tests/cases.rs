@@ -22,7 +22,7 @@ const SIXTEEN_OPEN: &[u8] = &[
 const EVERY_NAME: &[u8] = &[1, 1, 1, 1, 1, 3, 1, 2, 1, 1, 4, 1, 1, 0, 0, 1, 0, 1, 0, 5];
 
 /// The files of `examples/cases/`, whose README says what each one shows.
-const STATED: [(&str, Stated); 38] = [
+const STATED: [(&str, Stated); 46] = [
     // Cases.
     ("empty_file", Err((1, 0))),
     ("sixteen_open", Ok(SIXTEEN_OPEN)),
@@ -42,6 +42,15 @@ const STATED: [(&str, Stated); 38] = [
     ("block_open_first", Err((13, 13 + 4 * 4))),
     ("block_unwritten_first", Ok(&[4, 1, 3, 2, 0, 4])),
     ("two_threads", Ok(&[3, 2, 4, 3, 2, 4])),
+    // What a block states.
+    ("stated_truly", Ok(&[1, 0, 3, 3, 0, 2, 2, 0, 4, 3, 2, 0, 5])),
+    ("stated_above", Err((18, 7 + 4))),
+    ("stated_below", Err((18, 7 + 4 * 3))),
+    ("stated_beside", Err((18, 7 + 4 * 2))),
+    ("stated_t", Err((13, 13 + 4 * 3))),
+    ("stated_within", Err((18, 7 + 4 * 3))),
+    ("stated_and_written", Err((18, 13 + 4 * 2))),
+    ("statement_of_5", Err((7, 7))),
     // Mistakes that look reasonable.
     ("a_then_a", Ok(&[4, 4, 5])),
     ("both_parts_take", Ok(&[3, 3, 0, 3, 0, 2, 4])),

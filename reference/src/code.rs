@@ -1,6 +1,7 @@
 //! One thread's code: instructions and nesting are tested in one pass (refusals 7 and 8), in which
 //! a visitor sees every instruction.
 
+use crate::instruction::MAX_STATEMENT;
 use crate::nesting::{Broken, Closer, Ended, Nesting};
 use crate::op::{self, Form, Row, Word};
 use crate::refusal::Refusal;
@@ -22,8 +23,10 @@ pub(crate) trait Visitor {
     fn write(&mut self, place: usize, variable: u8);
     fn take(&mut self, place: usize, lock: u8);
     fn give(&mut self, place: usize, lock: u8);
-    /// IF, WHILE, ATOMIC.
+    /// IF, WHILE.
     fn open(&mut self);
+    /// ATOMIC, with what it states.
+    fn open_block(&mut self, statement: u8);
     fn turn_to_else(&mut self);
     fn end_if(&mut self, place: usize, opener: usize);
     fn again(&mut self, place: usize, opener: usize);
@@ -40,6 +43,7 @@ impl Visitor for OnlyReading {
     fn take(&mut self, _: usize, _: u8) {}
     fn give(&mut self, _: usize, _: u8) {}
     fn open(&mut self) {}
+    fn open_block(&mut self, _: u8) {}
     fn turn_to_else(&mut self) {}
     fn end_if(&mut self, _: usize, _: usize) {}
     fn again(&mut self, _: usize, _: usize) {}
@@ -157,7 +161,7 @@ impl<V: Visitor> Pass<V> {
             Form::Else => self.turn_to_else(place, n),
             Form::While => self.open(Closer::Again, place, n),
             Form::Again => self.again(place, n),
-            Form::Atomic => self.open(Closer::EndOfBlock, place, n),
+            Form::Atomic => self.open_block(place, a, n),
             Form::End => self.end(place),
         }
     }
@@ -205,6 +209,14 @@ impl<V: Visitor> Pass<V> {
     fn open(&mut self, closer: Closer, place: usize, n: u16) -> Result<(), Fault> {
         self.nesting.open(closer, place, n)?;
         self.visitor.open();
+        Ok(())
+    }
+
+    #[inline(always)]
+    fn open_block(&mut self, place: usize, statement: u8, n: u16) -> Result<(), Fault> {
+        require(statement <= MAX_STATEMENT)?;
+        self.nesting.open(Closer::EndOfBlock, place, n)?;
+        self.visitor.open_block(statement);
         Ok(())
     }
 

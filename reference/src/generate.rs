@@ -9,6 +9,7 @@ mod limits;
 mod lists;
 mod program;
 mod rng;
+mod statement;
 mod writer;
 
 pub use damage::{damaged_file, nearly_accepted_file};
@@ -16,6 +17,7 @@ pub use limits::{deep_file, largest_file, limit_file};
 pub use lists::{good_list, list, longest_list};
 pub use program::encode_file;
 pub use rng::Rng;
+pub use statement::{atomics, without_statements};
 
 use program::{Source, Style};
 
@@ -42,7 +44,7 @@ pub fn disciplined_file(rng: &mut Rng) -> Vec<u8> {
     Source::random(rng, Style::Disciplined).encode()
 }
 
-/// An accepted file with shared variables, locks and nested constructs.
+/// An accepted file with shared variables, locks, nested constructs and true statements.
 pub fn accepted_file(rng: &mut Rng) -> Vec<u8> {
     accepted_source(rng).encode()
 }

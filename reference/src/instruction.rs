@@ -1,11 +1,19 @@
 //! Instructions, decoded from their four bytes ("The file", the table of op codes).
 
+use crate::atomicity::Atomicity;
 use crate::op::{self, Word};
 
 /// The number of registers of a thread, r0 to r7.
 pub const REGISTERS: usize = 8;
 
-/// A decoded instruction. Registers, variables and locks are numbers; a distance counts places.
+/// What ATOMIC has for a statement if it makes none.
+pub const NOT_STATED: u8 = 0;
+
+/// The greatest statement, A's report byte: T can't be stated.
+pub const MAX_STATEMENT: u8 = Atomicity::A as u8;
+
+/// A decoded instruction. Registers, variables and locks are numbers; a distance counts places; a
+/// statement is the report byte that ATOMIC says its block has, or 0.
 #[derive(Clone, Copy, Debug, PartialEq, Eq, Hash)]
 pub enum Instruction {
     Set { to: u8, number: u16 },
@@ -21,14 +29,15 @@ pub enum Instruction {
     Else { distance: u16 },
     While { test: u8, distance: u16 },
     Again { distance: u16 },
-    Atomic { distance: u16 },
+    Atomic { statement: u8, distance: u16 },
     End,
 }
 
 use Instruction::*;
 
 impl Instruction {
-    /// Decodes a known op whose unused fields are 0. The names used may still not exist.
+    /// Decodes a known op whose unused fields are 0. The names used may still not exist, and a
+    /// statement may lie above the greatest.
     pub fn decode(word: Word) -> Option<Instruction> {
         let n = op::number(word);
         Some(match word {
@@ -45,7 +54,10 @@ impl Instruction {
             [op::ELSE, 0, _, _] => Else { distance: n },
             [op::WHILE, test, _, _] => While { test, distance: n },
             [op::AGAIN, 0, _, _] => Again { distance: n },
-            [op::ATOMIC, 0, _, _] => Atomic { distance: n },
+            [op::ATOMIC, statement, _, _] => Atomic {
+                statement,
+                distance: n,
+            },
             [op::END, 0, 0, 0] => End,
             _ => return None,
         })
@@ -71,7 +83,10 @@ impl Instruction {
             Else { distance } => wide(op::ELSE, 0, distance),
             While { test, distance } => wide(op::WHILE, test, distance),
             Again { distance } => wide(op::AGAIN, 0, distance),
-            Atomic { distance } => wide(op::ATOMIC, 0, distance),
+            Atomic {
+                statement,
+                distance,
+            } => wide(op::ATOMIC, statement, distance),
             End => [op::END, 0, 0, 0],
         }
     }

@@ -69,6 +69,15 @@ impl Report {
         }
     }
 
+    /// What judging works out for a sound file, also where its writer's offences leave it without a
+    /// report. Those who write files want to know.
+    pub(crate) fn of_sound(file: &[u8]) -> Report {
+        let mut report = Report::new();
+        let refusal = report.fill(file).err();
+        debug_assert!(refusal.is_none_or(Refusal::is_writers), "{refusal:?}");
+        report
+    }
+
     /// Reads and judges one thread's code; answers the writer's first offence in it. (Never
     /// inlined, so that the loop has the processor's registers to itself.)
     #[inline(never)]

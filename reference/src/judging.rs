@@ -1,11 +1,12 @@
 //! Judging one thread's code while it is read: its lock discipline and its atomicities ("Lock
-//! discipline", "Atomicities"; refusals 9 to 13).
+//! discipline", "Atomicities"; refusals 9 to 13 and 18).
 
 use std::mem;
 
 use crate::access::{AccessRules, Rule};
 use crate::atomicity::Atomicity;
 use crate::code::{Code, Visitor};
+use crate::instruction::NOT_STATED;
 use crate::lock_set::LockSet;
 use crate::nesting::LEVELS;
 use crate::reader::MAX_INSTRUCTIONS;
@@ -39,13 +40,15 @@ struct Frame {
     held: LockSet,
     /// The then part's atomicity, from ELSE on.
     then_part: Atomicity,
+    /// What a block states of itself.
+    statement: u8,
 }
 
 /// Judges a thread's code while it is read, with the lock set and the atomicity so far carried
 /// along.
 ///
-/// After the first offence it goes on, since the rest of the file has to be read; what it finds
-/// from there on is of no account.
+/// After the first offence it goes on, since the rest of the file has to be read; the offences that
+/// it finds from there on are of no account.
 pub(crate) struct Judging<'j> {
     rules: &'j AccessRules,
     /// Zeros at first, which stay at ELSE, AGAIN and END.
@@ -65,6 +68,7 @@ impl<'j> Judging<'j> {
             before: Atomicity::B,
             held: LockSet::empty(),
             then_part: Atomicity::B,
+            statement: NOT_STATED,
         };
         Judging {
             rules,
@@ -110,6 +114,19 @@ impl<'j> Judging<'j> {
     #[inline]
     fn innermost(&mut self) -> &mut Frame {
         &mut self.frames[self.depth % LEVELS]
+    }
+
+    /// Opens a construct; only a block states something.
+    #[inline]
+    fn push(&mut self, statement: u8) {
+        self.depth += 1;
+        *self.innermost() = Frame {
+            before: self.so_far,
+            held: self.held,
+            then_part: Atomicity::B,
+            statement,
+        };
+        self.so_far = Atomicity::B;
     }
 
     /// Closes the innermost construct, whose atomicity is known now, and goes on with the
@@ -161,13 +178,12 @@ impl Visitor for Judging<'_> {
 
     #[inline]
     fn open(&mut self) {
-        self.depth += 1;
-        *self.innermost() = Frame {
-            before: self.so_far,
-            held: self.held,
-            then_part: Atomicity::B,
-        };
-        self.so_far = Atomicity::B;
+        self.push(NOT_STATED);
+    }
+
+    #[inline]
+    fn open_block(&mut self, statement: u8) {
+        self.push(statement);
     }
 
     /// The else part starts with the set at the IF; the then part's set is kept to compare.
@@ -192,9 +208,13 @@ impl Visitor for Judging<'_> {
         self.close(opener, self.so_far.closure());
     }
 
+    /// Of two offences the first is remembered: 13 comes before 18.
     #[inline]
     fn end_block(&mut self, place: usize, opener: usize) {
+        let statement = self.innermost().statement;
+        let is_true = (statement == NOT_STATED) | (statement == self.so_far.report_byte());
         self.require(self.so_far != Atomicity::T, Refusal::BLOCK_IS_T, place);
+        self.require(is_true, Refusal::FALSE_STATEMENT, place);
         self.close(opener, self.so_far);
     }
 }

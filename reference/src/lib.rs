@@ -16,7 +16,7 @@
 //! | [`lock_set`] | "Lock discipline": the set itself | – |
 //! | `writers` | "Rules": which threads write an open variable | – |
 //! | `access` | "Lock discipline", "Rules": the kinds of variables | – |
-//! | `judging` | "Lock discipline", "Atomicities": the rules | 9 to 13 |
+//! | `judging` | "Lock discipline", "Atomicities": the rules | 9 to 13, 18 |
 //! | [`judge`](mod@judge) | "Atomicities": the report | 16 |
 //! | [`machine`] | "The step machine" | 14 to 16 |
 //! | [`printout`] | "Line and bench": which line is about what | 17, 16 |

@@ -308,7 +308,7 @@ fn write_numbers(numbers: &[u32], out: &mut [u8]) {
 /// Whether a place lies inside a block: past its ATOMIC, its END included.
 pub fn is_inside(code: &[Instruction], place: usize) -> bool {
     code.iter().enumerate().any(|(w, &instruction)| {
-        matches!(instruction, Atomic { distance }
+        matches!(instruction, Atomic { distance, .. }
             if w < place && place <= w + usize::from(distance))
     })
 }

@@ -49,6 +49,8 @@ enum Field {
     Register,
     /// A variable or lock, which has to lie below a count that is the file's.
     Name,
+    /// A report byte that may be stated, or 0. No mask says what is good: its form's test does.
+    Statement,
     /// Half of a number or distance.
     Half,
     Unused,
@@ -59,7 +61,7 @@ impl Field {
     const fn zero_bits(self) -> u8 {
         match self {
             Field::Register => !7,
-            Field::Name | Field::Half => 0,
+            Field::Name | Field::Statement | Field::Half => 0,
             Field::Unused => !0,
         }
     }
@@ -79,7 +81,8 @@ impl Row {
         ROWS[usize::from(op)]
     }
 
-    /// Whether every register exists and every unused field is 0: one test for all fields.
+    /// Whether every register exists and every unused field is 0: one test for all fields. Names
+    /// and statements are left to the form's own.
     #[inline]
     pub fn fits(self, word: Word) -> bool {
         u32::from_le_bytes(word) & self.zero_bits == 0
@@ -95,7 +98,7 @@ impl Row {
 static ROWS: [Row; 256] = rows();
 
 const fn rows() -> [Row; 256] {
-    use Field::{Half, Name, Register, Unused};
+    use Field::{Half, Name, Register, Statement, Unused};
     let mut rows = [Row::new(Form::Unknown, Unused, Unused, Unused); 256];
     rows[SET as usize] = Row::new(Form::Calculation, Register, Half, Half);
     rows[COPY as usize] = Row::new(Form::Calculation, Register, Register, Unused);
@@ -110,7 +113,7 @@ const fn rows() -> [Row; 256] {
     rows[ELSE as usize] = Row::new(Form::Else, Unused, Half, Half);
     rows[WHILE as usize] = Row::new(Form::While, Register, Half, Half);
     rows[AGAIN as usize] = Row::new(Form::Again, Unused, Half, Half);
-    rows[ATOMIC as usize] = Row::new(Form::Atomic, Unused, Half, Half);
+    rows[ATOMIC as usize] = Row::new(Form::Atomic, Statement, Half, Half);
     rows[END as usize] = Row::new(Form::End, Unused, Unused, Unused);
     rows
 }

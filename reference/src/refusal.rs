@@ -25,6 +25,15 @@ impl Refusal {
     pub const THREAD_NUMBER: u32 = 15;
     pub const BUFFER_TOO_SHORT: u32 = 16;
     pub const NO_SUCH_LINE: u32 = 17;
+    pub const FALSE_STATEMENT: u32 = 18;
+
+    /// Whether the program's writer brought it about: a file that gets it is sound.
+    pub fn is_writers(self) -> bool {
+        matches!(
+            self.number,
+            Self::ACCESS..=Self::BLOCK_IS_T | Self::FALSE_STATEMENT
+        )
+    }
 
     pub(crate) fn new(number: u32, detail: usize) -> Self {
         Refusal {

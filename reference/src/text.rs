@@ -2,6 +2,7 @@
 //! bench").
 
 use crate::atomicity::Atomicity;
+use crate::instruction::NOT_STATED;
 use crate::op::{self, Word};
 use crate::printout::{Line, LINE_BUFFER};
 use crate::reader::{Kind, Variable, INSTRUCTION_BYTES, VARIABLE_BYTES};
@@ -145,7 +146,8 @@ impl Text<'_> {
             op::ELSE => self.push(b" ELSE").number(n),
             op::WHILE => self.push(b" WHILE").register(a).number(n),
             op::AGAIN => self.push(b" AGAIN").number(n),
-            op::ATOMIC => self.push(b" ATOMIC").number(n),
+            op::ATOMIC if a == NOT_STATED => self.push(b" ATOMIC").number(n),
+            op::ATOMIC => self.push(b" ATOMIC").number(n).letter(a),
             _ => self.push(b" END"),
         }
     }

@@ -3,7 +3,7 @@
 
 mod common;
 
-use common::{counts, file, hex, judge_in, line_in, refused, run_in};
+use common::{atomic_to, counts, file, hex, judge_in, line_in, refused, run_in, stating};
 use hogunlas_reference::atomicity::Atomicity;
 use hogunlas_reference::instruction::Instruction::{self, *};
 use hogunlas_reference::machine::{is_inside, Outcome, State, Thread};
@@ -24,7 +24,7 @@ const WRITE: Instruction = Write {
 
 fn block(body: &[Instruction]) -> Vec<Instruction> {
     let distance = body.len() as u16 + 1;
-    [&[Atomic { distance }], body, &[End]].concat()
+    [&[atomic_to(distance)], body, &[End]].concat()
 }
 
 fn repeat(body: &[Instruction]) -> Vec<Instruction> {
@@ -228,7 +228,111 @@ fn while_around_take_give_is_refused_within_a_block() {
     assert_eq!(report(OPEN, &code), refused(13, offset(5)));
 }
 
+// What a block states.
+
+/// A block that states a report byte.
+fn stated(statement: u8, body: &[Instruction]) -> Vec<Instruction> {
+    let mut code = block(body);
+    code[0] = stating(statement, body.len() as u16 + 1);
+    code
+}
+
+/// A block with a report byte: what stands before it, its body, and what stands behind.
+type Surrounded = (u8, [&'static [Instruction]; 3]);
+
+const BLOCKS: [Surrounded; 4] = [
+    (1, [&[], &[], &[]]),
+    (2, [&[TAKE], &[GIVE], &[]]),
+    (3, [&[], &[TAKE], &[GIVE]]),
+    (4, [&[], &[TAKE, READ, WRITE, GIVE], &[]]),
+];
+
+#[test]
+fn a_statement_is_true_of_the_atomicity_itself_alone() {
+    for (right, [before, body, behind]) in BLOCKS {
+        let judged = |statement| {
+            let code = [before, &stated(statement, body), behind].concat();
+            report(GUARDED_BY_K0, &code)
+        };
+        let unstated = judged(0).unwrap();
+        assert_eq!(unstated[before.len()], right);
+        let end = offset(before.len() + body.len() + 1);
+        for statement in 1..=4 {
+            if statement == right {
+                assert_eq!(judged(statement).as_ref(), Ok(&unstated));
+            } else {
+                let answer = judged(statement);
+                assert_eq!(answer, refused(18, end), "{right} stated {statement}");
+            }
+        }
+    }
+}
+
+#[test]
+fn t_cannot_be_stated() {
+    assert_eq!(report(OPEN, &stated(5, &[])), refused(7, offset(0)));
+    let two_writes = |statement| report(OPEN, &stated(statement, &[WRITE, WRITE]));
+    assert_eq!(two_writes(5), refused(7, offset(0)));
+    for statement in 0..=4 {
+        assert_eq!(two_writes(statement), refused(13, offset(3)), "13 first");
+    }
+}
+
+#[test]
+fn the_inner_blocks_statement_is_compared_first() {
+    let nested = |inner, outer| stated(outer, &[stated(inner, &[TAKE]), vec![GIVE]].concat());
+    let both_true = Ok(vec![4, 3, 3, 0, 2, 0, 4]);
+    assert_eq!(report(OPEN, &nested(3, 4)), both_true);
+    assert_eq!(report(OPEN, &nested(4, 4)), refused(18, offset(3)));
+    assert_eq!(report(OPEN, &nested(4, 3)), refused(18, offset(3)));
+    assert_eq!(report(OPEN, &nested(3, 3)), refused(18, offset(5)));
+}
+
+#[test]
+fn a_write_in_another_thread_makes_a_statement_false() {
+    let reads = |statement| stated(statement, &[READ]);
+    assert_eq!(report(OPEN, &reads(1)), Ok(vec![1, 1, 0, 1]));
+    assert_eq!(report(OPEN, &reads(4)), refused(18, offset(2)));
+    let beside_writer = |statement| report_beside_writer(OPEN, &reads(statement));
+    assert_eq!(beside_writer(1), refused(18, offset(2)));
+    assert_eq!(beside_writer(4), Ok(vec![4, 4, 0, 4]));
+}
+
+#[test]
+fn a_statement_is_printed_after_the_distance() {
+    let line = |code: &[Instruction]| {
+        let line = line_in(48, &file(1, &[], &[code]), 5).unwrap();
+        String::from_utf8(line).unwrap()
+    };
+    let body = [TAKE, GIVE];
+    assert_eq!(line(&stated(4, &body)), "34 04 00 03 0 ATOMIC 3 A A\n");
+    assert_eq!(line(&stated(0, &body)), "34 00 00 03 0 ATOMIC 3 A\n");
+    let kept = [stated(3, &[TAKE]), vec![GIVE]].concat();
+    assert_eq!(line(&kept), "34 03 00 02 0 ATOMIC 2 R R\n");
+    assert_eq!(line(&stated(1, &[])), "34 01 00 01 0 ATOMIC 1 B B\n");
+}
+
 // Mistakes that look reasonable.
+
+/// The block is B; what follows, what stands before and the whole are A.
+#[test]
+fn a_statement_is_of_the_block_alone() {
+    let followed = |statement| [stated(statement, &[]), vec![WRITE]].concat();
+    assert_eq!(report(OPEN, &followed(1)), Ok(vec![1, 0, 4, 4]));
+    assert_eq!(report(OPEN, &followed(4)), refused(18, offset(1)));
+    let behind = |statement| [vec![WRITE], stated(statement, &[])].concat();
+    assert_eq!(report(OPEN, &behind(1)), Ok(vec![4, 1, 0, 4]));
+    assert_eq!(report(OPEN, &behind(4)), refused(18, offset(2)));
+}
+
+#[test]
+fn a_statement_does_not_stand_for_the_block() {
+    let writes = stated(1, &[WRITE]);
+    let twice = stated(1, &[&writes[..], &writes].concat());
+    assert_eq!(report(OPEN, &twice), refused(18, offset(3)));
+    let unstated = block(&[block(&[WRITE]), block(&[WRITE])].concat());
+    assert_eq!(report(OPEN, &unstated), refused(13, offset(7)));
+}
 
 #[test]
 fn two_atomic_parts_are_not_atomic() {
@@ -548,11 +652,13 @@ fn every_instruction_is_printed_with_its_fields() {
         "33 00 00 01 12 AGAIN 1 -",
         "34 00 00 01 13 ATOMIC 1 B",
         "35 00 00 00 14 END -",
+        "34 01 00 01 15 ATOMIC 1 B B",
+        "35 00 00 00 16 END -",
     ];
-    let mut file = hex("01 00 01 00 0C 02 00 00 00 00 09 03 00 80 00 00 00 00 3C");
+    let mut file = hex("01 00 01 00 0C 02 00 00 00 00 09 03 00 80 00 00 00 00 44");
     code.iter().for_each(|line| file.extend(hex(&line[..11])));
     let head = "01 version 1\n00 locks 0\n01 threads 1\n000C variables 2\n\
-        02 00 00000009 v0 fixed 9\n03 00 80000000 v1 open 2147483648\n003C thread 0 code 15\n";
+        02 00 00000009 v0 fixed 9\n03 00 80000000 v1 open 2147483648\n0044 thread 0 code 17\n";
     let printed = String::from_utf8(bench(&file)).unwrap();
     assert_eq!(printed, format!("{head}{}\nthread 0 A\n", code.join("\n")));
 }

@@ -1,11 +1,12 @@
 //! Where reading and judging in one pass after a search for WRITEs, tests by masks, vector
 //! instructions, and counts worked out after the steps could go wrong: fields at their limits,
 //! offences of different kinds in one file, offences and WRITEs at the first and the last place,
-//! codes of no and of 1,024 instructions, and threads that end at any index of a list.
+//! codes of no and of 1,024 instructions, statements at every depth, and threads that end at any
+//! index of a list.
 
 mod common;
 
-use common::{counts, file, judge_in, line_in, refused, run_in, stepped};
+use common::{atomic_to, counts, file, judge_in, line_in, refused, run_in, stating, stepped};
 use hogunlas_reference::instruction::Instruction::{self, *};
 use hogunlas_reference::machine::{State, MAX_LIST};
 use hogunlas_reference::reader::Program;
@@ -49,6 +50,7 @@ const WRONG: [u8; 4] = [0xFF, 0, 0, 0];
 
 const ANY: usize = 256;
 const REGISTER: usize = 8;
+const STATEMENT: usize = 5;
 const UNUSED: usize = 1;
 
 /// The standard's table of op codes: the values below these are good in the fields a, b, c.
@@ -67,7 +69,7 @@ fn good_values(locks: usize, variables: usize) -> [(u8, [usize; 3]); 15] {
         (0x31, [UNUSED, ANY, ANY]),
         (0x32, [REGISTER, ANY, ANY]),
         (0x33, [UNUSED, ANY, ANY]),
-        (0x34, [UNUSED, ANY, ANY]),
+        (0x34, [STATEMENT, ANY, ANY]),
         (0x35, [UNUSED, UNUSED, UNUSED]),
     ]
 }
@@ -125,7 +127,6 @@ fn while_to(distance: u16) -> Instruction {
 
 /// Codes whose nesting is broken at their last place.
 fn broken_codes() -> Vec<Vec<Instruction>> {
-    let atomic_to = |distance| Atomic { distance };
     let mut codes = vec![
         vec![End],
         vec![PLAIN, Else { distance: 1 }],
@@ -175,7 +176,7 @@ fn a_wrong_instruction_after_a_broken_nesting_comes_first() {
 
 #[test]
 fn a_wrong_instruction_comes_before_an_entry_left_open() {
-    let mut words = words(&[Atomic { distance: 1 }]);
+    let mut words = words(&[atomic_to(1)]);
     assert_eq!(refusal(&one_thread(&words)), (8, offset(1)), "at the end");
     words.push(WRONG);
     assert_eq!(refusal(&one_thread(&words)), (7, offset(1)));
@@ -198,7 +199,7 @@ fn sixteen_entries_pass_and_the_seventeenth_of_each_kind_is_refused() {
         let (opener, closers) = match kind % 3 {
             0 => (if_to(distance), vec![Else { distance: 1 }, End]),
             1 => (while_to(distance), vec![Again { distance }]),
-            _ => (Atomic { distance }, vec![End]),
+            _ => (atomic_to(distance), vec![End]),
         };
         [vec![opener], body, closers].concat()
     };
@@ -212,6 +213,86 @@ fn sixteen_entries_pass_and_the_seventeenth_of_each_kind_is_refused() {
         );
         let seventeen = (0..17).fold(Vec::new(), |body, level| around(kind + level, body));
         assert_eq!(refusal(&file(0, &[], &[&seventeen])), (8, offset(16)));
+    }
+}
+
+// Statements.
+
+/// Sixteen constructs within each other, blocks or every second one an IF, around an A. All blocks
+/// are A and state it but one, at some level from the outside.
+fn nested_statements(with_ifs: bool, level: usize, statement: u8) -> Vec<Instruction> {
+    (0..16).rev().fold(vec![WRITE], |body, at| {
+        let distance = body.len() as u16 + 1;
+        if with_ifs && at % 2 == 1 {
+            return [&[if_to(distance)], &body[..], &[Else { distance: 1 }, End]].concat();
+        }
+        let statement = if at == level { statement } else { 4 };
+        [&[stating(statement, distance)], &body[..], &[End]].concat()
+    })
+}
+
+/// Each open entry keeps its own statement, whatever is opened and closed within.
+#[test]
+fn a_statement_is_compared_at_its_own_end() {
+    for (with_ifs, level) in (0..16).flat_map(|level| [(false, level), (true, level & !1)]) {
+        let code = |statement| nested_statements(with_ifs, level, statement);
+        let whole = file(0, &[OPEN], &[&code(4)]);
+        assert!(judge_in(60, &whole).is_ok());
+        for statement in 1..=3 {
+            let wrong = code(statement);
+            let Atomic { distance, .. } = wrong[level] else {
+                panic!("a block at every level")
+            };
+            let end = 13 + 4 * (level as u64 + u64::from(distance));
+            let found = refusal(&file(0, &[OPEN], &[&wrong]));
+            assert_eq!(found, (18, end), "level {level}");
+        }
+    }
+}
+
+/// What one block states says nothing of the next one at the same depth, in the same thread or in
+/// another.
+#[test]
+fn a_statement_is_forgotten_at_its_end() {
+    let stated = [stating(1, 1), End];
+    let takes = |statement| [stating(statement, 2), TAKE, End, GIVE];
+    let choice = [if_to(1), Else { distance: 1 }, End];
+    let code = [&stated[..], &takes(0), &choice].concat();
+    let report = vec![1, 0, 3, 3, 0, 2, 1, 0, 0, 4];
+    assert_eq!(judge_in(20, &file(1, &[], &[&code])), Ok(report));
+    let threads = file(1, &[], &[&stated, &takes(0)]);
+    assert_eq!(judge_in(20, &threads), Ok(vec![1, 0, 1, 3, 3, 0, 2, 4]));
+    let wrong = file(1, &[], &[&stated, &takes(1)]);
+    assert_eq!(refusal(&wrong), (18, 7 + 8 + 2 + 8));
+}
+
+/// Every atomicity with every field a: "0 means not stated".
+#[test]
+fn every_field_of_every_block() {
+    let bodies = [
+        (vec![], vec![], 1),
+        (vec![TAKE], vec![GIVE], 2),
+        (vec![], vec![TAKE], 3),
+        (vec![], vec![TAKE, GIVE], 4),
+        (vec![], vec![TAKE, GIVE, TAKE, GIVE], 5),
+    ];
+    for (before, body, report_byte) in bodies {
+        let end = before.len() + body.len() + 1;
+        let behind = vec![GIVE; usize::from(report_byte == 3)];
+        for field in 0..=255 {
+            let opener = [stating(field, body.len() as u16 + 1)];
+            let code = [&before, &opener[..], &body, &[End], &behind].concat();
+            let answer = judge_in(20, &file(1, &[], &[&code]));
+            let wanted = match field {
+                5.. => refused(7, offset(before.len())),
+                _ if report_byte == 5 => refused(13, offset(end)),
+                0 => Ok(report_byte),
+                _ if field == report_byte => Ok(report_byte),
+                _ => refused(18, offset(end)),
+            };
+            let reported = answer.map(|report| report[before.len()]);
+            assert_eq!(reported, wanted, "{report_byte}, field {field}");
+        }
     }
 }
 
@@ -230,11 +311,11 @@ fn offending_codes() -> Vec<(Vec<Instruction>, u32, usize)> {
         (vec![while_to(2), TAKE, Again { distance: 2 }, GIVE], 12, 2),
         (vec![TAKE], 12, 1),
         (vec![lock(1), lock(0), GIVE], 12, 3),
-        (
-            vec![Atomic { distance: 5 }, TAKE, GIVE, TAKE, GIVE, End],
-            13,
-            5,
-        ),
+        (vec![atomic_to(5), TAKE, GIVE, TAKE, GIVE, End], 13, 5),
+        (vec![stating(4, 5), TAKE, GIVE, TAKE, GIVE, End], 13, 5),
+        (vec![stating(4, 1), End], 18, 1),
+        (vec![TAKE, stating(4, 2), GIVE, End], 18, 3),
+        (vec![stating(1, 3), stating(2, 1), End, End], 18, 2),
     ]
 }
 
@@ -334,7 +415,7 @@ fn codes_of_no_instructions() {
 /// 1,024 instructions, the first of which opens what the last one closes.
 fn full_block(body: Instruction) -> Vec<Instruction> {
     let mut code = vec![body; 1_024];
-    code[0] = Atomic { distance: 1_023 };
+    code[0] = atomic_to(1_023);
     code[1_023] = End;
     code
 }
@@ -361,11 +442,16 @@ fn offences_at_the_last_place_of_the_largest_file() {
     };
     let mut plain = vec![PLAIN; 1_024];
     assert_eq!(with_last(full_block(WRITE)), (13, 33_169));
+    for statement in 2..=4 {
+        let mut code = full_block(PLAIN);
+        code[0] = stating(statement, 1_023);
+        assert_eq!(with_last(code), (18, 33_169), "B, stated {statement}");
+    }
     plain[1_023] = TAKE;
     assert_eq!(with_last(plain.clone()), (12, 33_173), "the section's end");
     plain[1_023] = GIVE;
     assert_eq!(with_last(plain.clone()), (11, 33_169));
-    plain[1_023] = Atomic { distance: 1 };
+    plain[1_023] = atomic_to(1);
     assert_eq!(with_last(plain.clone()), (8, 33_173));
     plain[1_023] = Read { to: 8, variable: 0 };
     assert_eq!(with_last(plain), (7, 33_169));
@@ -473,7 +559,7 @@ fn only_a_write_of_the_same_variable_counts() {
 /// The search meets the damage before the reading does: the first offence decides all the same.
 #[test]
 fn the_search_for_writes_alters_no_refusal_of_a_damaged_file() {
-    let block = [Atomic { distance: 4 }, READ, TAKE, GIVE, End];
+    let block = [atomic_to(4), READ, TAKE, GIVE, End];
     let whole = file(1, &[OPEN], &[&block, &[WRITE, PLAIN]]);
     let second = 13 + 4 * block.len();
     assert_eq!(refusal(&whole), (13, second as u64 - 4));
@@ -558,7 +644,7 @@ fn jumps_land_where_they_must() {
     let repeat = [while_to(2), PLAIN, Again { distance: 2 }];
     assert_eq!(places(&with(1, &repeat), 5), [0, 1, 2, 3, 1, 4]);
     assert_eq!(places(&with(0, &repeat), 3), [0, 1, 4, 4]);
-    let block = [Atomic { distance: 1 }, End];
+    let block = [atomic_to(1), End];
     assert_eq!(places(&block, 3), [0, 1, 2, 2]);
 }
 

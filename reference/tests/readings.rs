@@ -1,9 +1,9 @@
-//! The order of refusals ("The order of tests"), and whose WRITEs count for a READ of an open
-//! variable ("Rules").
+//! The order of refusals ("The order of tests"), whose WRITEs count for a READ of an open variable
+//! and when a statement is false ("Rules").
 
 mod common;
 
-use common::{file, hex, judge_in, line_in, refused, run_in};
+use common::{atomic_to, file, hex, judge_in, line_in, refused, run_in, stating};
 use hogunlas_reference::instruction::Instruction::{self, *};
 use hogunlas_reference::Refusal;
 
@@ -77,7 +77,8 @@ fn wrong_fields_are_refused_at_their_instruction() {
         "30 08 00 01",
         "31 01 00 01",
         "33 01 00 01",
-        "34 01 00 01",
+        "34 05 00 01",
+        "34 FF 00 01",
         "35 00 00 01",
         "36 00 00 00",
     ] {
@@ -114,10 +115,6 @@ fn else_to(distance: u16) -> Instruction {
 
 fn again(distance: u16) -> Instruction {
     Again { distance }
-}
-
-fn atomic_to(distance: u16) -> Instruction {
-    Atomic { distance }
 }
 
 #[test]
@@ -160,6 +157,39 @@ fn the_file_comes_before_the_writer_and_threads_in_order() {
     assert_eq!(judge_in(20, &given_back), refused(11, 15));
     let left_over = [taken_twice, vec![0]].concat();
     assert_eq!(judge_in(20, &left_over), refused(5, 17));
+}
+
+#[test]
+fn a_false_statement_is_found_at_its_blocks_end_after_13() {
+    let (take, give) = (Take { lock: 0 }, Give { lock: 0 });
+    let judged = |code: &[&[_]]| judge_in(20, &file(1, &[], code));
+    let overstated = [stating(4, 1), End];
+    assert_eq!(judged(&[&overstated]), refused(18, 11), "at the END");
+    let torn = [stating(4, 5), take, give, take, give, End];
+    assert_eq!(judged(&[&torn]), refused(13, 27), "13 before 18");
+    let both = [&overstated[..], &torn];
+    assert_eq!(judged(&both), refused(18, 11), "threads in order");
+    let kept = [stating(4, 2), take, End];
+    assert_eq!(judged(&[&kept]), refused(18, 15), "18 before 12 at the end");
+    let not_held = [stating(4, 2), give, End];
+    assert_eq!(judged(&[&not_held]), refused(11, 11), "places in order");
+    let inner = [stating(4, 4), stating(4, 2), take, End, End, give];
+    assert_eq!(judged(&[&inner]), refused(18, 19), "the inner END first");
+}
+
+#[test]
+fn a_field_above_4_is_an_instruction_that_is_wrong() {
+    let judged = |atomic| judge_in(20, &file(0, &[], &[&[atomic, End]]));
+    for field in 5..=255 {
+        assert_eq!(judged(stating(field, 1)), refused(7, 7));
+        assert_eq!(judged(stating(field, 0)), refused(7, 7), "7 before 8");
+    }
+    assert_eq!(judged(stating(4, 0)), refused(8, 7), "8 before 18");
+    let overstated = [stating(4, 1), End];
+    let left_over = [file(0, &[], &[&overstated]), vec![0]].concat();
+    assert_eq!(judge_in(20, &left_over), refused(5, 15), "5 before 18");
+    let next_thread = file(0, &[], &[&overstated, &[End]]);
+    assert_eq!(judge_in(20, &next_thread), refused(8, 17), "8 before 18");
 }
 
 #[test]
@@ -297,7 +327,10 @@ fn line_tests_its_number_then_the_buffer() {
 fn the_callers_refusals_come_last() {
     assert_eq!(run_in(0, &hex("01 00 09"), &[9], 0), refused(3, 2));
     let given = file(1, &[], &[&[Give { lock: 0 }]]);
-    assert_eq!(run_in(0, &given, &[9], 0), refused(11, 7));
-    assert_eq!(line_in(0, &given, 99), refused(11, 7));
-    assert_eq!(judge_in(0, &given), refused(11, 7));
+    let overstated = file(0, &[], &[&[stating(4, 1), End]]);
+    for (file, number, detail) in [(given, 11, 7), (overstated, 18, 11)] {
+        assert_eq!(run_in(0, &file, &[9], 0), refused(number, detail));
+        assert_eq!(line_in(0, &file, 99), refused(number, detail));
+        assert_eq!(judge_in(0, &file), refused(number, detail));
+    }
 }

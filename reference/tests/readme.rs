@@ -27,12 +27,26 @@ fn the_worked_example_is_the_printout() {
 #[test]
 fn the_refused_examples_are_refused_so() {
     let text = shown();
-    for example in ["examples/torn_pair.bin", "examples/second_writer.bin"] {
+    let examples = ["torn_pair", "second_writer", "recalibration"];
+    for example in examples.map(|name| format!("examples/{name}.bin")) {
+        let example = example.as_str();
         let (_, rest) = text.split_once(example).expect(example);
         let (_, said) = rest.split_once("`bench` prints `").expect(example);
         let (refusal, _) = said.split_once('`').expect(example);
         assert_eq!(format!("{refusal}\n"), printed(example));
     }
+}
+
+/// The README quotes the line of a block that states what it is.
+#[test]
+fn a_statement_is_shown_as_it_is_printed() {
+    let text = shown();
+    let (_, said) = text.split_once("`examples/calibration.bin`").expect("it");
+    let (_, said) = said.split_once("prints it as `").expect("a line");
+    let (line, _) = said.split_once('`').expect("a line");
+    assert!(line.contains(" ATOMIC "), "{line}");
+    let printout = printed("examples/calibration.bin");
+    assert!(printout.lines().any(|other| other == line), "{line}");
 }
 
 /// The READ of a variable that its thread alone writes is B, before the lock is taken.

@@ -7,6 +7,7 @@ use std::collections::BTreeSet;
 
 use common::{judge_in, line_in, run_in, Ran};
 use hogunlas_reference::atomicity::Atomicity::{self, *};
+use hogunlas_reference::generate::without_statements;
 use hogunlas_reference::instruction::{Instruction, REGISTERS};
 use hogunlas_reference::judge::MAX_REPORT;
 use hogunlas_reference::machine::{is_inside, Outcome, State, Thread, MAX_LIST};
@@ -91,7 +92,7 @@ fn every_kind_of_block_is_said_how_to_read_and_shown() {
 #[test]
 fn every_block_is_what_the_calls_answer() {
     let page = Page::read();
-    assert!(examples::blocks(&page, &Reimplementation) >= 6);
+    assert!(examples::blocks(&page, &Reimplementation) >= 10);
     for (file, printed) in examples::printouts(&page) {
         assert_eq!(bench(&file), printed.as_bytes());
     }
@@ -100,7 +101,7 @@ fn every_block_is_what_the_calls_answer() {
 #[test]
 fn every_table_of_answers_is_what_the_calls_answer() {
     let page = Page::read();
-    assert!(examples::judged_tables(&page, &Reimplementation) >= 68);
+    assert!(examples::judged_tables(&page, &Reimplementation) >= 116);
     assert!(examples::run_table(&page, &Reimplementation) >= 10);
 }
 
@@ -287,17 +288,18 @@ fn the_refusals_are_numbered_and_named_so() {
             "THREAD_NUMBER" => Refusal::THREAD_NUMBER,
             "BUFFER_TOO_SHORT" => Refusal::BUFFER_TOO_SHORT,
             "NO_SUCH_LINE" => Refusal::NO_SUCH_LINE,
+            "FALSE_STATEMENT" => Refusal::FALSE_STATEMENT,
             unknown => panic!("no refusal: {unknown}"),
         };
         assert_eq!(named, right, "{row:?}");
         let who = match right {
             1..=8 => "sender",
-            9..=13 => "writer",
+            9..=13 | 18 => "writer",
             _ => "caller",
         };
         assert_eq!(row[2], who, "{row:?}");
     }
-    assert_eq!(table.rows.len(), Refusal::NO_SUCH_LINE as usize);
+    assert_eq!(table.rows.len(), Refusal::FALSE_STATEMENT as usize);
 }
 
 /// What each call refuses after the file's own numbers, met in this order by mending one at a time.
@@ -330,8 +332,8 @@ fn the_calls_refuse_in_the_tables_order() {
     for row in &table.rows {
         let (own, last) = row[4]
             .split_once(", ")
-            .expect("1 to 13, then the call's own");
-        assert_eq!(own, "1 to 13");
+            .expect("the file's, then the call's own");
+        assert_eq!(own, "1 to 13 and 18");
         let wanted = last
             .split(", ")
             .map(|text| Some(text.parse().expect("a number")));
@@ -633,6 +635,50 @@ fn a_wrong_page_fails() {
     };
     let unknown_kind = fails_with(&page, "```report pair", "```reports pair", blocks);
     assert!(unknown_kind, "a block of an unknown kind");
+}
+
+/// The page says of its file that has a WRITE more: without the statement it would be accepted.
+#[test]
+fn a_statement_alone_can_refuse_a_file() {
+    let page = Page::read();
+    let [stated, turned] = ["stated", "turned"].map(|name| named_file(&page, name));
+    let reported = |file: &[u8]| Reimplementation.judge(file).map(|report| report[0]);
+    assert_eq!(reported(&without_statements(&stated)), Ok(1));
+    assert_eq!(reported(&without_statements(&turned)), Ok(4));
+    assert_eq!(reported(&turned), common::refused(18, 27));
+}
+
+/// What may be stated, what is refused by 18 and how a statement is printed.
+#[test]
+fn wrong_statements_on_the_page_fail() {
+    let page = Page::read();
+    let ops = |page: &Page| {
+        examples::op_table(page, &Reimplementation);
+    };
+    for wrong in ["0", "register"] {
+        let row = format!("| 34 | ATOMIC | {wrong} |");
+        let fails = fails_with(&page, "| 34 | ATOMIC | statement |", &row, ops);
+        assert!(fails, "{row}");
+    }
+    let answers = |page: &Page| {
+        examples::judged_tables(page, &Reimplementation);
+    };
+    let cases = [
+        ("| `ATOMIC 1 B, END` |", "| `ATOMIC 1, END` |", false),
+        ("| `ATOMIC 1 B, END` |", "| `ATOMIC 1 A, END` |", true),
+        ("| `ATOMIC 1 A, END` |", "| `ATOMIC 1, END` |", true),
+        ("| `ATOMIC 1 A, END` |", "| `ATOMIC 1 T, END` |", true),
+    ];
+    for (words, other, wrong) in cases {
+        assert_eq!(fails_with(&page, words, other, answers), wrong, "{other}");
+    }
+    let blocks = |page: &Page| {
+        examples::blocks(page, &Reimplementation);
+    };
+    for other in ["ATOMIC 6 A\n", "ATOMIC A 6 A\n", "ATOMIC 6 B A\n"] {
+        let fails = fails_with(&page, "ATOMIC 6 A A\n", other, blocks);
+        assert!(fails, "{other}");
+    }
 }
 
 /// Counts are compared thread by thread, and there are some for each thread of the file.

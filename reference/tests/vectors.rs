@@ -15,6 +15,8 @@ use hogunlas_reference::{bench, state_length, Counts, Refusal};
 const VERSION_1_0: &str = "";
 const VERSION_1_1: &str = "1.1";
 const VERSION_1_2: &str = "1.2";
+const VERSION_1_3: &str = "1.3";
+const VERSIONS: [&str; 4] = [VERSION_1_0, VERSION_1_1, VERSION_1_2, VERSION_1_3];
 
 /// Splits the lines of a vector file into fields, checks each with its line number, and compares
 /// the number of cases with the number of lines.
@@ -33,32 +35,26 @@ fn each_case(folder: &str, kind: &str, mut check: impl FnMut(&[&str], usize)) {
     assert!(cases > 0 && cases == newlines, "{cases} of {newlines}");
 }
 
-/// Every case of versions 1.1 and 1.2 is answered as recorded; of version 1.0, every case but the
-/// named ones, which are answered otherwise. `answers` makes of a version's case what is answered
-/// and what is recorded.
+/// Every case is answered as recorded, but for the named ones of older versions, which later ones
+/// answer otherwise. `answers` makes of a version's case what is answered and what is recorded.
 fn answers_its_vectors<T: Debug + PartialEq>(
     kind: &str,
     answers: impl Fn(&str, &[&str]) -> (T, T),
 ) {
-    for version in [VERSION_1_1, VERSION_1_2] {
+    for version in VERSIONS {
+        let mut changed = Vec::new();
         each_case(version, kind, |case, line| {
             let (answered, recorded) = answers(version, case);
-            assert_eq!(answered, recorded, "line {line} of {version}/{kind}.txt");
+            if answered != recorded {
+                let can_change = changed::can_change(version, &hex(case[0]), case);
+                let at = format!("line {line} of {version}/{kind}.txt");
+                assert!(can_change, "{at}: {answered:?}, {recorded:?}");
+                changed.push(line);
+            }
         });
+        let named = changed::lines(version, kind);
+        assert_eq!(changed, named, "lines of {version}/{kind}.txt");
     }
-    let mut changed = Vec::new();
-    each_case(VERSION_1_0, kind, |case, line| {
-        let (answered, recorded) = answers(VERSION_1_0, case);
-        if answered != recorded {
-            let can_change = changed::reads_what_no_other_thread_writes(&hex(case[0]));
-            assert!(
-                can_change,
-                "line {line} of {kind}.txt: {answered:?}, {recorded:?}"
-            );
-            changed.push(line);
-        }
-    });
-    assert_eq!(changed, changed::lines(kind), "lines of {kind}.txt");
 }
 
 fn number(field: &str) -> u64 {
@@ -101,10 +97,15 @@ fn counts_and_state(fields: &[&str]) -> (Vec<Counts>, Vec<u8>) {
     (counts.collect(), hex(state))
 }
 
+/// Whether a version records the counts of each thread, or those of all threads together.
+fn records_each_thread(version: &str) -> bool {
+    [VERSION_1_2, VERSION_1_3].contains(&version)
+}
+
 /// What a version records of the answered counts: those of each thread of the file, where all
 /// others must be 0, or their sums.
 fn as_recorded(version: &str, file: &[u8], counts: &[Counts]) -> Vec<Counts> {
-    if version != VERSION_1_2 {
+    if !records_each_thread(version) {
         return vec![counts.iter().sum()];
     }
     let (present, absent) = counts.split_at(usize::from(file[2]));
@@ -144,7 +145,7 @@ fn run_answers_its_vectors() {
 /// to the list's length.
 #[test]
 fn the_recorded_counts_add_up() {
-    for version in [VERSION_1_0, VERSION_1_1, VERSION_1_2] {
+    for version in VERSIONS {
         let mut answered = 0;
         each_case(version, "run", |case, line| {
             let (file, list) = (hex(case[0]), hex(case[1]));
@@ -154,7 +155,7 @@ fn the_recorded_counts_add_up() {
             let entries: Vec<u64> = counts.iter().map(|counts| counts.entries()).collect();
             let sum: u64 = entries.iter().sum();
             assert_eq!(sum, list.len() as u64, "line {line}");
-            if version == VERSION_1_2 {
+            if records_each_thread(version) {
                 assert_eq!(entries, named(&list)[..usize::from(file[2])], "line {line}");
             } else {
                 assert_eq!(entries.len(), 1, "line {line}");

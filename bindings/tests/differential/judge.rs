@@ -7,11 +7,12 @@ use hogunlas_reference::report_length;
 use crate::support::{lend, Tally};
 
 /// On the first 20,000 of these files `reference/tests/writers.rs` shows wrong rules for open
-/// variables to give other answers than the right one.
+/// variables to give other answers than the right one, and `statements.rs` wrong rules for what
+/// blocks state.
 const FILES: u64 = 100_000;
 
 /// Compares one call, and answers what both said.
-fn compare(seed: u64, file: &[u8], length: usize) -> Result<usize, Refusal> {
+pub fn compare(seed: u64, file: &[u8], length: usize) -> Result<usize, Refusal> {
     let wanted = lend(seed, length, |report| {
         hogunlas_reference::judge(file, report)
     });
@@ -42,7 +43,7 @@ fn judge_agrees_on_generated_files() {
             tally.add(&compare(seed, &file, length));
         }
     }
-    tally.assert_met((0..=13).chain([16]));
+    tally.assert_met((0..=13).chain([16, 18]));
 }
 
 #[test]

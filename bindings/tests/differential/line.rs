@@ -77,7 +77,7 @@ fn line_agrees_on_all_lines_of_generated_files() {
         let file = file(&mut Rng::new(seed));
         compare_all(seed, &file, &mut tally);
     }
-    tally.assert_met((0..=13).chain([16, 17]));
+    tally.assert_met((0..=13).chain([16, 17, 18]));
 }
 
 #[test]

@@ -6,6 +6,7 @@
 mod judge;
 mod line;
 mod run;
+mod statements;
 mod support;
 #[path = "../vector_file/mod.rs"]
 mod vector_file;

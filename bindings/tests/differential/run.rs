@@ -92,7 +92,7 @@ fn run_refuses_what_judge_refuses() {
         let length = some_length(rng, state_length(&file).unwrap_or(40));
         tally.add(&compare(seed, &file, &list, length));
     }
-    tally.assert_met(0..=16);
+    tally.assert_met((0..=16).chain([18]));
 }
 
 #[test]

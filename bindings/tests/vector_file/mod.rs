@@ -15,7 +15,10 @@ pub enum Version {
     V1_0,
     V1_1,
     V1_2,
+    V1_3,
 }
+
+const VERSIONS: [Version; 4] = [Version::V1_0, Version::V1_1, Version::V1_2, Version::V1_3];
 
 impl Version {
     /// Its folder of `reference/vectors/`.
@@ -24,6 +27,7 @@ impl Version {
             Version::V1_0 => "",
             Version::V1_1 => "1.1",
             Version::V1_2 => "1.2",
+            Version::V1_3 => "1.3",
         }
     }
 }
@@ -97,22 +101,21 @@ fn each_case(version: Version, kind: &str, mut check: impl FnMut(&Case)) {
     assert_eq!(cases, text.matches('\n').count());
 }
 
-/// Every case of versions 1.1 and 1.2 is answered as recorded; of version 1.0, every case but the
-/// named ones, which are answered otherwise. `difference` says what is not as a case records it.
+/// Every case is answered as recorded, but for the named ones of older versions, which later ones
+/// answer otherwise. `difference` says what is not as a case records it.
 pub fn answers_its_vectors(kind: &str, difference: impl Fn(&Case) -> Option<String>) {
-    for version in [Version::V1_1, Version::V1_2] {
+    for version in VERSIONS {
+        let folder = version.folder();
+        let mut changed = Vec::new();
         each_case(version, kind, |case| {
-            let at = format!("line {} of {}/{kind}.txt", case.line, version.folder());
-            assert_eq!(difference(case), None, "{at}");
+            if let Some(difference) = difference(case) {
+                let can_change = changed::can_change(folder, &case.bytes(1), &case.fields);
+                let at = format!("line {} of {folder}/{kind}.txt", case.line);
+                assert!(can_change, "{at}: {difference}");
+                changed.push(case.line);
+            }
         });
+        let named = changed::lines(folder, kind);
+        assert_eq!(changed, named, "lines of {folder}/{kind}.txt");
     }
-    let mut changed = Vec::new();
-    each_case(Version::V1_0, kind, |case| {
-        if let Some(difference) = difference(case) {
-            let can_change = changed::reads_what_no_other_thread_writes(&case.bytes(1));
-            assert!(can_change, "line {} of {kind}.txt: {difference}", case.line);
-            changed.push(case.line);
-        }
-    });
-    assert_eq!(changed, changed::lines(kind), "lines of {kind}.txt");
 }

@@ -4,6 +4,7 @@
 --     JudgeCall     what judge answers where its code returns
 --     Running       ... of run
 --     Counted       what the counts of run sum to
+--     Unstated      a file with its statements taken out is judged and run alike
 --     Printing      ... of line
 --     Numbers       a refusal as C gets it
 --     Prefix        bench prints the same for the first 33,174 bytes as for the whole file
@@ -14,6 +15,7 @@ pub mod Opening
 pub mod JudgeCall
 pub mod Running
 pub mod Counted
+pub mod Unstated
 pub mod Printing
 pub mod Numbers
 pub mod Prefix

@@ -3,7 +3,9 @@
 --     plain-effect     a plain instruction's effect is its access's
 --     takes-from, gives-from
 --                      an effect that adds or takes out a lock is a TAKE's or a GIVE's, of a lock that is not held or is
---     StepOf, step-of  what nesting is after an instruction, by its effect
+--     PartOf           a part that an entry opens
+--     AfterCloser, Opened, StepOf, step-of
+--                      what nesting is after an instruction, by its effect
 use Prim.Native.Nat.{ℕ, suc, _+_, _<_}
 use mathlib.Core.Path.{_≡_, refl, sym, ap, subst}
 use mathlib.Core.Bool.{Bool, true, false, not}
@@ -191,12 +193,17 @@ module _ (q : ℕ) (is : List Instruction) where
   AfterCloser (entry.Loop w n) es = Passing.Passes (suc q) is es
   AfterCloser (entry.Block w) es = Passing.Passes (suc q) is es
 
+  -- after an opener of a part: an entry more, for which there is room
+  abbrev pub Opened : List Entry → Part → Type 0
+  Opened es x = (e : Entry) × (length es < entryLimit) × PartOf e x × Passing.Passes (suc q) is (e ∷ es)
+
   abbrev pub StepOf : List Entry → Effect → Type 0
   StepOf es effect.Nothing = Passing.Passes (suc q) is es
   StepOf es effect.Single = Passing.Passes (suc q) is es
   StepOf es (effect.Takes k) = Passing.Passes (suc q) is es
   StepOf es (effect.Gives k) = Passing.Passes (suc q) is es
-  StepOf es (effect.Opens x) = (e : Entry) × (length es < entryLimit) × PartOf e x × Passing.Passes (suc q) is (e ∷ es)
+  StepOf es (effect.Opens x) = Opened es x
+  StepOf es (effect.Begins stated) = Opened es (part.Block stated)
   StepOf es effect.Closes = (e : Entry) × (below : List Entry) × (es ≡ e ∷ below) × AfterCloser e below
   StepOf es (effect.Refused r) = Unit
 

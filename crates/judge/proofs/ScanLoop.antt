@@ -43,15 +43,16 @@ use Rattle.program.proofs.Stack.{length-stack, stack-push, stack-top}
 use Rattle.judge.specs.Judging.{isTop, statesTruly}
 use Rattle.judge.specs.LockSet.{empty, same, withLock, withoutLock}
 use Rattle.judge.specs.Internal.Effect.{effectOf}
-use Rattle.judge.specs.Internal.Scan.{Carried, carried, noFrame, openedFrame, otherPart, endOf, closed, applied, scan, starting, framesOf, scanCode, ending}
+use Rattle.judge.specs.Internal.Scan.{Carried, carried, noFrame, openedFrame, otherPart, endOf, closed, opened, applied, scan, starting, framesOf, scanCode, ending}
 use Rattle.judge.specs.declared.effect.Effect.{Effect}
 use Rattle.judge.specs.declared.effect.Effect.the-variants as effect
 use Rattle.judge.specs.declared.frame.Closed.{Closed}
 use Rattle.judge.specs.declared.frame.Closed.the-variants.{Other, Whole, Refused}
 use Rattle.judge.specs.declared.frame.Frame.{Frame}
 use Rattle.judge.specs.declared.frame.Part.{Part}
+use Rattle.judge.specs.declared.frame.Part.the-variants as part
 use Rattle.judge.specs.declared.lock_set.LockSet.{LockSet}
-use Rattle.judge.proofs.Effects.{PartOf, of-then, of-else, of-loop, of-block, AfterCloser, StepOf, step-of}
+use Rattle.judge.proofs.Effects.{PartOf, of-then, of-else, of-loop, of-block, AfterCloser, Opened, StepOf, step-of}
 
 -- ---- frames and entries
 
@@ -96,6 +97,11 @@ module _ (q : ℕ) (is : List Instruction) (d : ℕ) (f : Frame) (s : LockSet) (
   whole-of of-else es b h next = next
   whole-of of-loop es b h next = next
   whole-of of-block es b h next = next
+
+-- an effect that opens a part
+pub data Opener (e : Effect) : Part → Type 0 where
+  opens : {q : Part} → e ≡ effect.Opens q → Opener e q
+  begins : {stated : ℕ} → e ≡ effect.Begins stated → Opener e (part.Block stated)
 
 -- ---- the frames of an array
 
@@ -259,21 +265,26 @@ module _ (s : List ℕ) (l : Layout) (c start count at : ℕ) (report₀ : List 
       openers-set j f h k b = getD-set-holds (λ k f. k < length frames → f .opener < length report₀) frames j f noFrame (λ _. h) k (x .openers k) (rw (← length-set frames j f) b)
 
       -- an opener
-      module _ (q : Part) (k : e ≡ effect.Opens q) where
-        opened-step : StepOf p after (x .entries) (effect.Opens q)
-        opened-step = subst (StepOf p after (x .entries)) k step-here
+      opened-step : (q : Part) → Opener e q → Opened p after (x .entries) q
+      opened-step q (opens k) = subst (StepOf p after (x .entries)) k step-here
+      opened-step _ (begins k) = subst (StepOf p after (x .entries)) k step-here
 
+      opened-goes : (q : Part) → Opener e q → applied e (start + 4 * p) (at + p) carriedNow ≡ opened q (at + p) carriedNow
+      unfolding applied
+      opened-goes q (opens k) = rw k
+      opened-goes _ (begins k) = rw k
+
+      module _ (q : Part) (k : Opener e q) where
         pub opens-room : depth < entryLimit
-        opens-room = omega (arith, opened-step .1, depth-is)
+        opens-room = omega (arith, opened-step q k .1, depth-is)
 
         pub scanning-opens : at + p < length report₀
             → Scanning report (set frames (depth + 1) (openedFrame q (at + p) locks sofar)) (depth + 1) locks Both (p + 1)
-        unfolding applied
         scanning-opens inside =
             let f = openedFrame q (at + p) locks sofar in
-            let t = opened-step in
+            let t = opened-step q k in
             let pushed = frames-pushed depth frames f (omega (arith, opens-room, x .frames-length)) in
-            scanning-next report (set frames (depth + 1) f) (depth + 1) locks Both (rw (k, pushed)) (omega (arith, opens-room)) (length-set frames (depth + 1) f) refl
+            scanning-next report (set frames (depth + 1) f) (depth + 1) locks Both (opened-goes q k ∙ rw pushed) (omega (arith, opens-room)) (length-set frames (depth + 1) f) refl
             (openers-set (depth + 1) f inside) (t .0 ∷ x .entries) (t .3) (rw pushed (match-more (t .2) (x .matches)))
 
       -- a closer

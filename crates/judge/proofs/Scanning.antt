@@ -31,13 +31,13 @@ use Rattle.judge.specs.Discipline.{lockSetAfter, atomicityOf, moverOf}
 use Rattle.judge.specs.Judging.{Finding, judge, isTop, statesTruly}
 use Rattle.judge.specs.LockSet.{same}
 use Rattle.judge.specs.Internal.Effect.{formEffect, effectOf}
-use Rattle.judge.specs.Internal.Scan.{Carried, carried, openedFrame, otherPart, endOf, closed, applied, scan}
+use Rattle.judge.specs.Internal.Scan.{Carried, carried, openedFrame, otherPart, endOf, closed, opened, applied, scan}
 use Rattle.judge.specs.declared.frame.Frame.{Frame}
 use Rattle.judge.specs.declared.frame.Part.{Part}
 use Rattle.judge.specs.declared.frame.Part.the-variants as part
 use Rattle.judge.specs.declared.lock_set.LockSet.{LockSet}
 use Rattle.judge.specs.declared.effect.Effect.{Effect}
-use Rattle.judge.specs.declared.effect.Effect.the-variants.{Opens, Closes}
+use Rattle.judge.specs.declared.effect.Effect.the-variants.{Closes}
 use Rattle.judge.specs.declared.frame.Closed.{Closed}
 use Rattle.judge.specs.declared.frame.Closed.the-variants.{Whole, Refused}
 use Rattle.judge.proofs.Effects.{access-applied, plain-effect}
@@ -125,9 +125,9 @@ module _ (p : Program) (t : ℕ) where
 
   -- past an opener
   scan-opener : (part : Part) (d at : ℕ) (i : Instruction) (is : List Instruction) (s : LockSet) (a : Atomicity) (fs : List Frame)
-      (report : List ℕ) → effectOf p t d i s ≡ Opens part
+      (report : List ℕ) → applied (effectOf p t d i s) d at (carried s a fs report) ≡ opened part at (carried s a fs report)
       → scan p t d at (carried s a fs report) (i ∷ is) ≡ scan p t (d + 4) (suc at) (carried s Both (openedFrame part at s a ∷ fs) report) is
-  unfolding scan applied
+  unfolding scan
   scan-opener part d at i is s a fs report e = rw e
 
   -- over the part that an opener opens
@@ -189,7 +189,7 @@ module _ (p : Program) (t : ℕ) where
       (λ v. reportByte b ∷ (inside ++ 0 ∷ v)) rest w e₁ e₂ (λ v. sets-closed report at at₁ (reportByte b) inside v e₃)
 
   loop-agrees : (x : ℕ) (body c : Code) → Agrees body → Agrees c → Agrees (loop x body c)
-  unfolding flat judge size scan WellFormed formOf effectOf formEffect
+  unfolding flat judge size scan applied WellFormed formOf effectOf formEffect
   loop-agrees x body c inside next d at s a fs report rest w =
       let frame = openedFrame part.Body at s a in
       let d₁ = d + 4 + 4 * size body in
@@ -213,7 +213,7 @@ module _ (p : Program) (t : ℕ) where
       ∙ sym (bind-assoc (judge p t (d + 4) s body) _ _)
 
   block-agrees : (stated : ℕ) (body c : Code) → Agrees body → Agrees c → Agrees (block stated body c)
-  unfolding flat judge size scan WellFormed formOf statementOf effectOf formEffect
+  unfolding flat judge size scan applied WellFormed formOf statementOf effectOf formEffect
   block-agrees stated body c inside next d at s a fs report rest w =
       let frame = openedFrame (part.Block stated) at s a in
       let d₁ = d + 4 + 4 * size body in
@@ -235,7 +235,7 @@ module _ (p : Program) (t : ℕ) where
       ∙ sym (bind-assoc (judge p t (d + 4) s body) _ _)
 
   choice-agrees : (x : ℕ) (one two c : Code) → Agrees one → Agrees two → Agrees c → Agrees (choice x one two c)
-  unfolding flat judge size scan WellFormed formOf effectOf formEffect
+  unfolding flat judge size scan applied WellFormed formOf effectOf formEffect
   choice-agrees x one two c first second next d at s a fs report rest w =
       let d₁ = d + 4 + 4 * size one in
       let d₂ = d₁ + 4 + 4 * size two in

@@ -29,8 +29,10 @@ pub enum Effect {
     Takes(u8),
     // The lock is taken out: L.
     Gives(u8),
-    // An opener, with the part that it opens.
+    // An IF or a WHILE, with the part that it opens.
     Opens(Part),
+    // An ATOMIC, with what it states: by itself, since a value that every opener hands on makes the walk over other instructions slower.
+    Begins(u8),
     // A closer. Which part it closes, the innermost frame says: reading has seen to that.
     Closes,
     Refused(Refusal),
@@ -96,7 +98,7 @@ pub fn effect_of(
         Instruction::Else(_) => Effect::Closes,
         Instruction::While(_, _) => Effect::Opens(Part::Body),
         Instruction::Again(_) => Effect::Closes,
-        Instruction::Atomic(stated, _) => Effect::Opens(Part::Block(stated)),
+        Instruction::Atomic(stated, _) => Effect::Begins(stated),
         Instruction::End => Effect::Closes,
         _ => Effect::Nothing,
     }

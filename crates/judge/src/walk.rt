@@ -2,6 +2,7 @@
 use crate::effect::Effect;
 use crate::effect::effect_of;
 use crate::frame::Closed;
+use crate::frame::Part;
 use crate::frame::no_frame;
 use crate::frame::opened_frame;
 use crate::frame::other_part;
@@ -106,6 +107,11 @@ pub fn walk_code(
             Effect::Opens(part) => {
                 depth += 1;
                 frames[depth] = opened_frame(part, at, locks, sofar);
+                sofar = Atomicity::Both;
+            }
+            Effect::Begins(stated) => {
+                depth += 1;
+                frames[depth] = opened_frame(Part::Block(stated), at, locks, sofar);
                 sofar = Atomicity::Both;
             }
             Effect::Closes => {

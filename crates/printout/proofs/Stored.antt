@@ -4,9 +4,11 @@
 --     laid-then, laid-more         what two calls write one after the other; one byte more
 --     laid-copied                  one byte more of a word that is copied
 --     word-ended, word-first       a word and the byte that ends it; a word with a byte before it
---     line-last, line-more         the last word of a line; a word of a line, and the line of the others
+--     line-last, lineOf-more, line-more
+--                                  the last word of a line; a word of a line, and the line of the others
 --     line-with, line-several      a word and several words, and the line of the others; several words before those
---     words-more, words-last       words with a blank after each: one more, and the last
+--     words-more, words-last, words-then
+--                                  words with a blank after each: one more, the last, and others after them
 --     instruction-words-is, kind-words-is
 --                                  the words of an instruction, of a kind, that is known by its pattern
 --     line-written, line-written-same
@@ -70,7 +72,7 @@ unfolding ended lineOf spaced
 line-last f = record { laid = f .laid }
 
 -- a line is its first word with a blank, then the line of the others
-lineOf-more : (w v : List ℕ) (vs : List (List ℕ)) → lineOf (w ∷ v ∷ vs) ≡ ended w 32 ++ lineOf (v ∷ vs)
+pub lineOf-more : (w v : List ℕ) (vs : List (List ℕ)) → lineOf (w ∷ v ∷ vs) ≡ ended w 32 ++ lineOf (v ∷ vs)
 unfolding ended lineOf spaced ascii
 lineOf-more w v vs = append-assoc (w ++ (32 ∷ [])) (spaced (v ∷ vs)) (10 ∷ [])
 

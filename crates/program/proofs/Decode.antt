@@ -14,6 +14,8 @@
 --     each-row            what a computed test says of all rows
 --     or-right            the second of two tests holds where the first does not
 --     access-wider        what lies below two counts lies below larger ones
+--     AllRows, decode-holds
+--                         what holds of each row's instruction holds of what is decoded
 --     rows-at             the table of rows, by op code
 use Prim.Native.Nat.{ℕ, zero, suc, _+_, _-_, _*_, _/_, _%_, _^_, _<_, _≤_}
 use mathlib.Core.Path.{_≡_, refl, sym, ap, _∙_, subst}
@@ -430,6 +432,27 @@ access-wider p q (reads v) h = lt-of-lt-of-le h q
 access-wider p q (writes v a) h = lt-of-lt-of-le h q
 access-wider p q (takes k) h = lt-of-lt-of-le h p
 access-wider p q (gives k) h = lt-of-lt-of-le h p
+
+-- ---- any instruction
+
+abbrev pub AllRows : (Instruction → Type 0) → List TableRow → Type 0
+AllRows P [] = Unit
+AllRows P (r ∷ rs) = P (r .instruction) × AllRows P rs
+
+module _ (P : Instruction → Type 0) (end : P End) (locks variables op a b c : ℕ) where
+  lookup-holds : (rows : List TableRow) → AllRows P rows → P (decodedInstruction (lookUp locks variables op a b c rows))
+  lookup-holds [] h = end
+  lookup-holds (r ∷ rs) h = cases (eqb op (r .op)) (isRightRow locks variables a b c r) (lookup-holds rs (h .1))
+    where
+      cases : (same right : Bool) → P (decodedInstruction (lookUp locks variables op a b c rs))
+          → P (decodedInstruction (choose same (choose right (Valid (r .instruction)) Invalid) (lookUp locks variables op a b c rs)))
+      cases true true rest = h .0
+      cases true false rest = end
+      cases false right rest = rest
+
+  pub decode-holds : AllRows P (table a b c) → P (decodedInstruction (decode locks variables op a b c))
+  unfolding decode
+  decode-holds h = lookup-holds (table a b c) h
 
 -- ---- the table of rows
 

@@ -313,7 +313,7 @@ module _ (s : List ℕ) (l : Layout) (h : SoundFile s l) where
       rw (
         variables-same (l .variables) recordsStart (omega arith),
         codes-cleared s (withoutStatements s) (length-cleared s) (l .locks) (l .variables) (l .threads) (recordOffset (l .variables)) (l .instructions)
-        (λ d _. clears-file d) (h .sections),
+            (λ d _. clears-file d) (h .sections),
       )
 
 -- a sound file without its statements is read as it is

@@ -86,6 +86,10 @@ listLimit = 65536
 abbrev pub lineSize : ℕ
 lineSize = 48
 
+-- "The longest line has 42 bytes"
+abbrev pub longestLine : ℕ
+longestLine = 42
+
 -- "It reads at most 33,174 bytes"
 abbrev pub benchLimit : ℕ
 benchLimit = largestFile + 1

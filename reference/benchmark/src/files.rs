@@ -3,6 +3,7 @@
 use hogunlas::MAX_LIST;
 use hogunlas_reference::generate::{self, encode_file, Rng};
 use hogunlas_reference::instruction::Instruction::{self, *};
+use hogunlas_reference::instruction::NOT_STATED;
 
 const THREADS: usize = 8;
 const INSTRUCTIONS: usize = 1_024;
@@ -83,9 +84,31 @@ fn construct(kind: usize, body: &[Instruction]) -> Vec<Instruction> {
     let (opener, closers) = match kind % 3 {
         0 => (If { test, distance }, vec![Else { distance: 1 }, End]),
         1 => (While { test, distance }, vec![Again { distance }]),
-        _ => (Atomic { distance }, vec![End]),
+        _ => (atomic_to(distance), vec![End]),
     };
     [&[opener], body, &closers].concat()
+}
+
+/// A block that states nothing.
+fn atomic_to(distance: u16) -> Instruction {
+    Atomic {
+        statement: NOT_STATED,
+        distance,
+    }
+}
+
+/// Nothing but blocks that state what they are, B and A in turn.
+pub fn stated_blocks() -> Vec<u8> {
+    let block = |statement, body: &[Instruction]| {
+        let distance = body.len() as u16 + 1;
+        let opener = Atomic {
+            statement,
+            distance,
+        };
+        [&[opener], body, &[End]].concat()
+    };
+    let section = [Take { lock: 0 }, Give { lock: 0 }];
+    largest(filled_with([block(1, &[]), block(4, &section)].into_iter()))
 }
 
 /// A thread's code: rounds of all parts while they fit, then single parts, then SETs.
@@ -115,7 +138,7 @@ pub fn last_op_unknown() -> Vec<u8> {
 
 /// Guarded READs, but the last instruction opens an entry.
 pub fn last_entry_open() -> Vec<u8> {
-    last_instruction(Atomic { distance: 1 }.encode())
+    last_instruction(atomic_to(1).encode())
 }
 
 fn last_instruction(word: [u8; 4]) -> Vec<u8> {
@@ -166,7 +189,7 @@ fn add_to_v0() -> [Instruction; 7] {
     let (to, from, variable) = (2, 2, 0);
     let (left, right) = (2, 1);
     [
-        Atomic { distance: 6 },
+        atomic_to(6),
         Take { lock: 0 },
         Read { to, variable },
         Add { to, left, right },

@@ -60,6 +60,7 @@ pub fn judge_rows() {
         "openers and closers, 16 deep",
         &[files::nested_constructs()],
     );
+    judge_row("blocks with statements", &[files::stated_blocks()]);
     judge_row("random code", &files::random_code());
     one_thread_rows();
     refused_row("7 at its end", files::last_op_unknown(), 7, 4);

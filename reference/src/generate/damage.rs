@@ -2,6 +2,7 @@
 
 use super::program::Source;
 use super::rng::Rng;
+use super::statement::change_statement;
 use super::{accepted_source, sound_file};
 use crate::instruction::Instruction::{self, *};
 use crate::reader::INSTRUCTION_BYTES;
@@ -16,16 +17,18 @@ pub fn nearly_accepted_file(rng: &mut Rng) -> Vec<u8> {
     source.encode()
 }
 
-/// One small change to a program: an instruction, a lock, a variable's kind or writers, a distance.
+/// One small change to a program: an instruction, a lock, a variable's kind or writers, a distance,
+/// a statement.
 fn change_source(rng: &mut Rng, source: &mut Source) {
-    match rng.below(15) {
+    match rng.below(22) {
         0..=2 => change_lock_instruction(rng, source),
         3..=4 => replace_instruction(rng, source),
         5 => remove_instruction(rng, source),
         6..=7 => swap_instructions(rng, source),
         8..=9 => change_variable(rng, source),
         10..=12 => add_writer(rng, source),
-        _ => change_distance(rng, source),
+        13..=14 => change_distance(rng, source),
+        _ => change_statement(rng, source),
     }
 }
 
@@ -158,7 +161,7 @@ fn change_distance(rng: &mut Rng, source: &mut Source) {
     };
     let instruction = &mut source.code[thread][place];
     match instruction {
-        If { distance, .. } | While { distance, .. } | Atomic { distance } => {
+        If { distance, .. } | While { distance, .. } | Atomic { distance, .. } => {
             *distance = nudge(*distance)
         }
         Else { distance } | Again { distance } => *distance = nudge(*distance),
@@ -267,7 +270,10 @@ fn random_word(rng: &mut Rng) -> Instruction {
         1 => Else { distance },
         2 => While { test: 0, distance },
         3 => Again { distance },
-        4 => Atomic { distance },
+        4 => Atomic {
+            statement: rng.below(8) as u8,
+            distance,
+        },
         5..=6 => End,
         _ => Take { lock: 0 },
     }

@@ -2,6 +2,7 @@
 
 use super::program::{Source, Style};
 use super::rng::Rng;
+use super::statement::state_blocks;
 use super::writer::{Scope, Writer};
 use crate::instruction::Instruction::{self, *};
 use crate::nesting::MAX_OPEN;
@@ -31,6 +32,7 @@ fn largest_source(rng: &mut Rng) -> Source {
         let code = full_code(rng, &source, thread);
         source.code.push(code);
     }
+    state_blocks(rng, &mut source, Style::Careful);
     source
 }
 
@@ -79,10 +81,12 @@ fn one_large_thread(rng: &mut Rng) -> Vec<u8> {
     source.code = vec![Vec::new(); threads];
     let thread = rng.below(threads);
     source.code[thread] = full_code(rng, &source, thread as u8);
+    state_blocks(rng, &mut source, Style::Careful);
     source.encode()
 }
 
-/// A file whose one thread opens `depth` entries within each other, of any kinds.
+/// A file whose one thread opens `depth` entries within each other, of any kinds. All is B, and so
+/// is what blocks state.
 pub fn deep_file(rng: &mut Rng, depth: usize) -> Vec<u8> {
     let mut code = vec![Set { to: 0, number: 1 }];
     for _ in 0..depth {
@@ -101,6 +105,7 @@ pub fn deep_file(rng: &mut Rng, depth: usize) -> Vec<u8> {
             ),
             1 => wrap(
                 Atomic {
+                    statement: rng.below(2) as u8,
                     distance: around + 1,
                 },
                 code,

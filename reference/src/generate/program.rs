@@ -2,6 +2,7 @@
 
 use super::channel::Channel;
 use super::rng::Rng;
+use super::statement::state_blocks;
 use super::writer::{Scope, Writer};
 use crate::instruction::Instruction;
 use crate::reader::{MAX_LOCKS, MAX_THREADS};
@@ -11,7 +12,7 @@ use crate::reader::{MAX_LOCKS, MAX_THREADS};
 pub(super) enum Style {
     /// Only those that make a file sound.
     Careless,
-    /// The lock discipline too, but blocks may be T.
+    /// The lock discipline too, and what blocks state is true; but they may be T.
     Disciplined,
     /// All: the file is accepted.
     Careful,
@@ -49,6 +50,7 @@ impl Source {
             let code = Writer::new(rng, scope).write(length);
             source.code.push(code);
         }
+        state_blocks(rng, &mut source, style);
         source
     }
 
@@ -63,6 +65,7 @@ impl Source {
             let code = Writer::new(rng, scope).write_in_blocks(length);
             source.code.push(code);
         }
+        state_blocks(rng, &mut source, style);
         source
     }
 

@@ -8,7 +8,7 @@ use super::channel::Channel;
 use super::program::{Source, Style};
 use super::rng::Rng;
 use crate::instruction::Instruction::{self, *};
-use crate::instruction::REGISTERS;
+use crate::instruction::{NOT_STATED, REGISTERS};
 use crate::lock_set::LockSet;
 use crate::nesting::MAX_OPEN;
 
@@ -432,7 +432,10 @@ impl<'r> Writer<'r> {
     /// An ATOMIC; an inner one goes on where the outer one is.
     fn block(&mut self, balanced: bool) {
         let outer = self.phase;
-        let opener = self.open(Atomic { distance: 0 });
+        let opener = self.open(Atomic {
+            statement: NOT_STATED,
+            distance: 0,
+        });
         self.phase = outer.max(Phase::Before);
         match self.rng.below(10) {
             0..=4 if outer == Phase::Free => self.critical_section(),
@@ -444,7 +447,10 @@ impl<'r> Writer<'r> {
             self.phase = Phase::Free;
         }
         let distance = (self.code.len() - opener) as u16;
-        self.code[opener] = Atomic { distance };
+        self.code[opener] = Atomic {
+            statement: NOT_STATED,
+            distance,
+        };
         self.close(End);
     }
 

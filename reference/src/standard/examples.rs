@@ -5,7 +5,7 @@ use super::notation::{
     answer, bytes, counts_line, dump, file, listed_counts, number, numbers, refusal,
 };
 use super::{Block, Page, Table};
-use crate::instruction::REGISTERS;
+use crate::instruction::{MAX_STATEMENT, REGISTERS};
 use crate::reader::{MAX_LOCKS, MAX_THREADS};
 use crate::{Counts, Refusal};
 
@@ -228,6 +228,7 @@ fn field_limit(kind: &str) -> usize {
         "register" => REGISTERS,
         "variable" => usize::from(VARIABLES),
         "lock" => usize::from(LOCKS),
+        "statement" => usize::from(MAX_STATEMENT) + 1,
         "n" => 256,
         "0" => 1,
         _ => panic!("no kind of field: {kind}"),
@@ -373,7 +374,8 @@ fn form_of(page: &Page, line: &str) -> usize {
     form
 }
 
-/// Whether a line has a form, of which `NAME` stands for one of the names of its row.
+/// Whether a line has a form, of which `NAME` stands for one of the names of its row. A name may
+/// have words behind it, as `ATOMIC with a statement`.
 fn has_form(line: &str, names: &str, form: &str) -> bool {
     let words: Vec<&str> = line.split(' ').collect();
     let forms: Vec<&str> = form.split(' ').collect();
@@ -386,7 +388,9 @@ fn has_form(line: &str, names: &str, form: &str) -> bool {
             "N" => is_decimal(word),
             "rN" | "vN" | "kN" | "tN" => word.starts_with(&form[..1]) && is_decimal(&word[1..]),
             "X" => ["B", "L", "R", "A", "T", "-"].contains(word),
-            "NAME" => names.split(", ").any(|name| name == *word),
+            "NAME" => names
+                .split(", ")
+                .any(|name| name.split(' ').next() == Some(word)),
             fixed => *word == fixed,
         })
 }

@@ -1,7 +1,9 @@
 //! How the page writes bytes, files, lists and answers ("How to read the examples").
 
+use crate::atomicity::Atomicity;
 use crate::generate::encode_file;
 use crate::instruction::Instruction::{self, *};
+use crate::instruction::NOT_STATED;
 use crate::{Counts, Refusal};
 
 /// Bytes in hexadecimal, separated by blanks.
@@ -82,37 +84,41 @@ fn named(letter: char, text: &str) -> u8 {
     number(digits.unwrap_or_else(|| panic!("{text} is no {letter}"))) as u8
 }
 
+/// The report byte of an atomicity's letter.
+fn report_byte(letter: &str) -> u8 {
+    let mut bytes = Atomicity::ALL.into_iter().map(Atomicity::report_byte);
+    let of_letter = bytes.find(|&byte| letter.as_bytes() == [Atomicity::letter(byte)]);
+    of_letter.unwrap_or_else(|| panic!("no atomicity: {letter}"))
+}
+
 /// An instruction with the printout's name and fields.
 pub fn instruction(text: &str) -> Instruction {
     let words: Vec<&str> = text.split(' ').collect();
-    let r = |text| named('r', text);
-    let v = |text| named('v', text);
-    let k = |text| named('k', text);
-    let n = |text| number(text) as u16;
-    match words[..] {
+    let read = plain(&words).or_else(|| opener_or_closer(&words));
+    read.unwrap_or_else(|| panic!("no instruction: {text}"))
+}
+
+fn plain(words: &[&str]) -> Option<Instruction> {
+    let r = |text: &str| named('r', text);
+    let v = |text: &str| named('v', text);
+    let k = |text: &str| named('k', text);
+    Some(match *words {
         ["SET", a, c] => Set {
             to: r(a),
-            number: n(c),
+            number: number(c) as u16,
         },
         ["COPY", a, b] => Copy {
             to: r(a),
             from: r(b),
         },
-        ["ADD", a, b, c] => Add {
-            to: r(a),
-            left: r(b),
-            right: r(c),
-        },
-        ["SUB", a, b, c] => Sub {
-            to: r(a),
-            left: r(b),
-            right: r(c),
-        },
-        ["LESS", a, b, c] => Less {
-            to: r(a),
-            left: r(b),
-            right: r(c),
-        },
+        [name @ ("ADD" | "SUB" | "LESS"), a, b, c] => {
+            let [to, left, right] = [a, b, c].map(r);
+            match name {
+                "ADD" => Add { to, left, right },
+                "SUB" => Sub { to, left, right },
+                _ => Less { to, left, right },
+            }
+        }
         ["READ", a, b] => Read {
             to: r(a),
             variable: v(b),
@@ -123,20 +129,38 @@ pub fn instruction(text: &str) -> Instruction {
         },
         ["TAKE", a] => Take { lock: k(a) },
         ["GIVE", a] => Give { lock: k(a) },
+        _ => return None,
+    })
+}
+
+fn opener_or_closer(words: &[&str]) -> Option<Instruction> {
+    let distance = |text: &str| number(text) as u16;
+    Some(match *words {
         ["IF", a, c] => If {
-            test: r(a),
-            distance: n(c),
+            test: named('r', a),
+            distance: distance(c),
         },
-        ["ELSE", c] => Else { distance: n(c) },
+        ["ELSE", c] => Else {
+            distance: distance(c),
+        },
         ["WHILE", a, c] => While {
-            test: r(a),
-            distance: n(c),
+            test: named('r', a),
+            distance: distance(c),
         },
-        ["AGAIN", c] => Again { distance: n(c) },
-        ["ATOMIC", c] => Atomic { distance: n(c) },
+        ["AGAIN", c] => Again {
+            distance: distance(c),
+        },
+        ["ATOMIC", c] => Atomic {
+            statement: NOT_STATED,
+            distance: distance(c),
+        },
+        ["ATOMIC", c, letter] => Atomic {
+            statement: report_byte(letter),
+            distance: distance(c),
+        },
         ["END"] => End,
-        _ => panic!("no instruction: {text}"),
-    }
+        _ => return None,
+    })
 }
 
 /// What judge answers: `report 4 3 2`, or `13 at 49`.

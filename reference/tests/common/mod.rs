@@ -2,7 +2,7 @@
 #![allow(dead_code)] // no test program uses all of them
 
 use hogunlas_reference::generate::encode_file;
-use hogunlas_reference::instruction::Instruction;
+use hogunlas_reference::instruction::{Instruction, NOT_STATED};
 use hogunlas_reference::machine::{Outcome, State};
 use hogunlas_reference::reader::{Program, MAX_THREADS};
 use hogunlas_reference::{judge, line, run, Counts, Refusal};
@@ -98,6 +98,19 @@ pub fn named(list: &[u8]) -> [u64; MAX_THREADS] {
 
 pub fn refused<T>(number: u32, detail: u64) -> Result<T, Refusal> {
     Err(Refusal { number, detail })
+}
+
+/// An ATOMIC that states nothing.
+pub const fn atomic_to(distance: u16) -> Instruction {
+    stating(NOT_STATED, distance)
+}
+
+/// An ATOMIC that states a report byte.
+pub const fn stating(statement: u8, distance: u16) -> Instruction {
+    Instruction::Atomic {
+        statement,
+        distance,
+    }
 }
 
 /// A file from its parts.

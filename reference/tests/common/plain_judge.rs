@@ -1,5 +1,5 @@
 //! The rules of judging, walked plainly and apart from the crate's own judging; and rules for open
-//! variables that look reasonable and are wrong.
+//! variables and for statements that look reasonable and are wrong.
 
 use std::collections::BTreeSet;
 
@@ -16,12 +16,31 @@ pub struct Writer {
     pub reached: bool,
 }
 
-/// A rule for open variables: by the WRITEs of a variable in all code, is a thread's access B?
+/// What is done with what a block states.
+#[derive(Clone, Copy, Debug, PartialEq, Eq)]
+enum Statements {
+    /// "A stated value must be exactly the one worked out: a false statement is refused (18)."
+    Exact,
+    NotCompared,
+    AtOrAbove,
+    AtTheAtomic,
+    Before13,
+    /// Compared with what the code is up to the END.
+    OfTheWhole,
+    /// Not compared: what follows is composed with the statement.
+    StandForTheBlock,
+    /// 0 is one that is never true.
+    NeverLeftOut,
+}
+
+/// A rule for open variables: by the WRITEs of a variable in all code, is a thread's access B? And
+/// a rule for statements.
 #[derive(Clone, Copy)]
 pub struct Rule {
     pub name: &'static str,
     read_is_b: fn(&[Writer], usize) -> bool,
     write_is_b: fn(&[Writer], usize) -> bool,
+    statements: Statements,
 }
 
 fn no_other(writers: &[Writer], thread: usize) -> bool {
@@ -34,6 +53,7 @@ pub const RIGHT: Rule = Rule {
     name: "right",
     read_is_b: no_other,
     write_is_b: |_, _| false,
+    statements: Statements::Exact,
 };
 
 /// What the rule was in the standard's version 1.0.
@@ -103,6 +123,45 @@ pub const TOO_LENIENT: [Rule; 7] = [
     Rule {
         name: "the one writer's WRITE is B",
         write_is_b: no_other,
+        ..RIGHT
+    },
+];
+
+/// Deal otherwise with what blocks state.
+pub const WRONG_STATEMENTS: [Rule; 7] = [
+    Rule {
+        name: "statements are not compared",
+        statements: Statements::NotCompared,
+        ..RIGHT
+    },
+    Rule {
+        name: "a statement at or above the one worked out is true",
+        statements: Statements::AtOrAbove,
+        ..RIGHT
+    },
+    Rule {
+        name: "18 at the ATOMIC",
+        statements: Statements::AtTheAtomic,
+        ..RIGHT
+    },
+    Rule {
+        name: "18 before 13",
+        statements: Statements::Before13,
+        ..RIGHT
+    },
+    Rule {
+        name: "a statement is of the whole",
+        statements: Statements::OfTheWhole,
+        ..RIGHT
+    },
+    Rule {
+        name: "a statement stands for the one worked out",
+        statements: Statements::StandForTheBlock,
+        ..RIGHT
+    },
+    Rule {
+        name: "a block has to state",
+        statements: Statements::NeverLeftOut,
         ..RIGHT
     },
 ];
@@ -189,7 +248,7 @@ impl Walk<'_> {
                 Else { .. } | Again { .. } | End => break,
                 If { .. } => self.choice()?,
                 While { .. } => self.repetition()?,
-                Atomic { .. } => self.block()?,
+                Atomic { statement, .. } => self.block(statement, so_far)?,
                 _ => self.plain(instruction)?,
             };
             self.report[opener] = part.report_byte();
@@ -218,11 +277,38 @@ impl Walk<'_> {
         Ok(body.closure())
     }
 
-    fn block(&mut self) -> Result<Atomicity, Refusal> {
+    fn block(&mut self, statement: u8, before: Atomicity) -> Result<Atomicity, Refusal> {
+        let opener = self.place;
         self.place += 1;
         let body = self.sequence()?;
+        let is_true = self.is_true(stated(statement), before, body);
+        if self.rule.statements == Statements::Before13 {
+            self.require(is_true, Refusal::FALSE_STATEMENT)?;
+        }
         self.require(body != T, Refusal::BLOCK_IS_T)?;
-        Ok(body)
+        let end = self.place;
+        if self.rule.statements == Statements::AtTheAtomic {
+            self.place = opener;
+        }
+        self.require(is_true, Refusal::FALSE_STATEMENT)?;
+        self.place = end;
+        match stated(statement) {
+            Some(stands) if self.rule.statements == Statements::StandForTheBlock => Ok(stands),
+            _ => Ok(body),
+        }
+    }
+
+    /// Whether what a block states passes, by the rule at hand.
+    fn is_true(&self, stated: Option<Atomicity>, before: Atomicity, body: Atomicity) -> bool {
+        let Some(stated) = stated else {
+            return self.rule.statements != Statements::NeverLeftOut;
+        };
+        match self.rule.statements {
+            Statements::NotCompared | Statements::StandForTheBlock => true,
+            Statements::AtOrAbove => body.join(stated) == stated,
+            Statements::OfTheWhole => before.then(body) == stated,
+            _ => body == stated,
+        }
     }
 
     fn plain(&mut self, instruction: Instruction) -> Result<Atomicity, Refusal> {
@@ -262,6 +348,13 @@ impl Walk<'_> {
         let both = !open || is_b(&self.writers[variable], self.thread);
         Ok(if both { B } else { A })
     }
+}
+
+/// The atomicity that a field states; "0 means not stated".
+fn stated(statement: u8) -> Option<Atomicity> {
+    let all = Atomicity::ALL.into_iter();
+    let mut same = all.filter(|of| of.report_byte() == statement);
+    same.next()
 }
 
 /// What a sound program is answered with a rule.

@@ -17,7 +17,7 @@ use Rattle.program.specs.declared.refusal.Refusal.the-variants as refusal
 use Rattle.judge.specs.Discipline.{kindAt, permits, accessAtomicity}
 use Rattle.judge.specs.LockSet.{holds}
 use Rattle.judge.specs.declared.effect.Effect.{Effect}
-use Rattle.judge.specs.declared.effect.Effect.the-variants.{Nothing, Single, Takes, Gives, Opens, Closes, Refused}
+use Rattle.judge.specs.declared.effect.Effect.the-variants.{Nothing, Single, Takes, Gives, Opens, Begins, Closes, Refused}
 use Rattle.judge.specs.declared.frame.Part.the-variants as part
 use Rattle.judge.specs.declared.lock_set.LockSet.{LockSet}
 
@@ -39,7 +39,7 @@ formEffect (form.If a n) stated plain = Opens part.Then
 formEffect (form.Else n) stated plain = Closes
 formEffect (form.While a n) stated plain = Opens part.Body
 formEffect (form.Again n) stated plain = Closes
-formEffect (form.Atomic n) stated plain = Opens (part.Block stated)
+formEffect (form.Atomic n) stated plain = Begins stated
 formEffect form.End stated plain = Closes
 
 unfoldable pub effectOf : Program → (c d : ℕ) → Instruction → LockSet → Effect

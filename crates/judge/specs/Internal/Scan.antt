@@ -5,7 +5,7 @@
 --                               frames
 --     elseEnd, bodyEnd, blockEnd, endOf
 --                               how a part ends
---     closed, applied           what is carried on from a closer, and from any effect
+--     closed, opened, applied   what is carried on from a closer, from an opener, and from any effect
 --     scan                      the instructions from one on
 --     starting, ending          where a code begins and ends
 --     scanCode, scanCodes       a code; the codes from one on
@@ -92,13 +92,18 @@ closed Other f s a fs report = fine (carried (f .locks) atomicity.Both (otherPar
 closed (Whole b) f s a fs report = fine (carried s (composition (f .before) b) fs (set report (f .opener) (reportByte b)))
 closed (Refused r) f s a fs report = refused r
 
+-- what is carried on where an opener whose byte stands at `at` opens a part
+abbrev pub opened : Part → (at : ℕ) → Carried → Answer Carried
+opened part at x = fine (carried (x .locks) atomicity.Both (openedFrame part at (x .locks) (x .sofar) ∷ x .frames) (x .report))
+
 -- what is carried on from an instruction at file offset d whose byte stands at `at`
 unfoldable pub applied : Effect → (d at : ℕ) → Carried → Answer Carried
 applied effect.Nothing d at x = fine (carried (x .locks) (x .sofar) (x .frames) (set (x .report) at 1))
 applied effect.Single d at x = fine (carried (x .locks) (composition (x .sofar) atomicity.Atomic) (x .frames) (set (x .report) at 4))
 applied (effect.Takes k) d at x = fine (carried (withLock (x .locks) k) (composition (x .sofar) atomicity.Right) (x .frames) (set (x .report) at 3))
 applied (effect.Gives k) d at x = fine (carried (withoutLock (x .locks) k) (composition (x .sofar) atomicity.Left) (x .frames) (set (x .report) at 2))
-applied (effect.Opens part) d at x = fine (carried (x .locks) atomicity.Both (openedFrame part at (x .locks) (x .sofar) ∷ x .frames) (x .report))
+applied (effect.Opens part) d at x = opened part at x
+applied (effect.Begins stated) d at x = opened (Block stated) at x
 applied effect.Closes d at x =
     let f = getD (x .frames) 0 noFrame in
     closed (endOf (f .part) d f (x .locks) (x .sofar)) f (x .locks) (x .sofar) (drop 1 (x .frames)) (set (x .report) at 0)

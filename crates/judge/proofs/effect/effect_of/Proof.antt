@@ -69,7 +69,7 @@ enum-told-3 c = search needs
 enum-told-4 : tie.Need-enum-told-4
 enum-told-4 c = search needs
 
--- `Instruction::Atomic(stated, _) => Effect::Opens(Part::Block(stated))`
+-- `Instruction::Atomic(stated, _) => Effect::Begins(stated)`
 enum-known-i-5 : tie.Need-enum-known-i-5
 enum-known-i-5 c = search needs
 

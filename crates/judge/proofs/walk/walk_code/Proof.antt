@@ -23,7 +23,7 @@ use Rattle.judge.specs.declared.effect.Effect.the-variants as effect
 use Rattle.judge.specs.declared.frame.Frame.{Frame}
 use Rattle.judge.specs.declared.frame.Part.the-variants.{Then}
 use Rattle.judge.proofs.Effects.{takes-from, gives-from}
-use Rattle.judge.proofs.ScanLoop.{Scanning, scanning-start, refused-here, scanning-nothing, scanning-single, scanning-takes, scanning-gives, opens-room, scanning-opens, closes-some, opener-bound, refused-closer, scanning-other, scanning-whole, scanning-end, refused-scan}
+use Rattle.judge.proofs.ScanLoop.{Scanning, scanning-start, refused-here, scanning-nothing, scanning-single, scanning-takes, scanning-gives, opens, begins, opens-room, scanning-opens, closes-some, opener-bound, refused-closer, scanning-other, scanning-whole, scanning-end, refused-scan}
 use Rattle.judge.proofs.walk.walk_code.Statement.{statement}
 use Rattle.judge.proofs.walk.walk_code.Tie as tie
 
@@ -219,10 +219,10 @@ opened-frame-requires : tie.Need-opened-frame-requires Inv-loop μ-loop
 opened-frame-requires c κs = search needs
 
 mul-frames : tie.Need-mul-frames Inv-loop μ-loop
-mul-frames c = let u = c .before .before .before .before in let a = u .before .before .before .before .before .before .before .before .before .before .before .before .args in let o = u .before .before .before .before .before .before .loop in omega (arith, opens-room (a .s .now) (a .l) (a .c .number) (a .c .start) (a .c .count) (a .c .first) (a .report .now) (o .report) (o .frames) (o .depth) (o .locks) (o .sofar) (o .p) (here (u .before .before .before .before .before .before)) (u .before .before .before .before .if1 .taken) (u .before .instruction-at .result) (said (u .before) (a .l) (u .before .before .before .before .before .before .before .before .before .before .before .before .pre .1)) (u .effect-of .result) (effect-said u (a .l) (u .before .before .before .before .before .before .before .before .before .before .before .before .pre .1) (u .before .before .before .before .before .before .before .before .before .before .before .before .pre .2)) _ (c .before .before .part .given .1))
+mul-frames c = let u = c .before .before .before .before in let a = u .before .before .before .before .before .before .before .before .before .before .before .before .args in let o = u .before .before .before .before .before .before .loop in omega (arith, opens-room (a .s .now) (a .l) (a .c .number) (a .c .start) (a .c .count) (a .c .first) (a .report .now) (o .report) (o .frames) (o .depth) (o .locks) (o .sofar) (o .p) (here (u .before .before .before .before .before .before)) (u .before .before .before .before .if1 .taken) (u .before .instruction-at .result) (said (u .before) (a .l) (u .before .before .before .before .before .before .before .before .before .before .before .before .pre .1)) (u .effect-of .result) (effect-said u (a .l) (u .before .before .before .before .before .before .before .before .before .before .before .before .pre .1) (u .before .before .before .before .before .before .before .before .before .before .before .before .pre .2)) _ (opens (c .before .before .part .given .1)))
 
 array-set-from-frames : tie.Need-array-set-from-frames Inv-loop μ-loop
-array-set-from-frames c = let u = c .before .before .before .before in let a = u .before .before .before .before .before .before .before .before .before .before .before .before .args in let o = u .before .before .before .before .before .before .loop in omega (arith, opens-room (a .s .now) (a .l) (a .c .number) (a .c .start) (a .c .count) (a .c .first) (a .report .now) (o .report) (o .frames) (o .depth) (o .locks) (o .sofar) (o .p) (here (u .before .before .before .before .before .before)) (u .before .before .before .before .if1 .taken) (u .before .instruction-at .result) (said (u .before) (a .l) (u .before .before .before .before .before .before .before .before .before .before .before .before .pre .1)) (u .effect-of .result) (effect-said u (a .l) (u .before .before .before .before .before .before .before .before .before .before .before .before .pre .1) (u .before .before .before .before .before .before .before .before .before .before .before .before .pre .2)) _ (c .before .before .part .given .1), here (u .before .before .before .before .before .before) .frames-length)
+array-set-from-frames c = let u = c .before .before .before .before in let a = u .before .before .before .before .before .before .before .before .before .before .before .before .args in let o = u .before .before .before .before .before .before .loop in omega (arith, opens-room (a .s .now) (a .l) (a .c .number) (a .c .start) (a .c .count) (a .c .first) (a .report .now) (o .report) (o .frames) (o .depth) (o .locks) (o .sofar) (o .p) (here (u .before .before .before .before .before .before)) (u .before .before .before .before .if1 .taken) (u .before .instruction-at .result) (said (u .before) (a .l) (u .before .before .before .before .before .before .before .before .before .before .before .before .pre .1)) (u .effect-of .result) (effect-said u (a .l) (u .before .before .before .before .before .before .before .before .before .before .before .before .pre .1) (u .before .before .before .before .before .before .before .before .before .before .before .before .pre .2)) _ (opens (c .before .before .part .given .1)), here (u .before .before .before .before .before .before) .frames-length)
 
 loop-less-5 : tie.Need-loop-less-5 Inv-loop μ-loop
 loop-less-5 c = omega arith
@@ -232,7 +232,35 @@ loop-again-5 c =
     let u = c .before .before .before .before in
     let a = u .before .before .before .before .before .before .before .before .before .before .before .before .args in
     let o = u .before .before .before .before .before .before .loop in
-    λ l located tables some. rw (c .opened-frame .ensures) (scanning-opens (a .s .now) l (a .c .number) (a .c .start) (a .c .count) (a .c .first) (a .report .now) (o .report) (o .frames) (o .depth) (o .locks) (o .sofar) (o .p) (o .inv l located tables some) (u .before .before .before .before .if1 .taken) (u .before .instruction-at .result) (said (u .before) l located) (u .effect-of .result) (effect-said u l located tables) _ (c .before .before .part .given .1) (omega (arith, u .before .before .before .before .before .before .before .before .before .before .before .before .pre .5, u .before .before .before .before .before .before .before .before .before .before .before .before .pre .6)))
+    λ l located tables some. rw (c .opened-frame .ensures) (scanning-opens (a .s .now) l (a .c .number) (a .c .start) (a .c .count) (a .c .first) (a .report .now) (o .report) (o .frames) (o .depth) (o .locks) (o .sofar) (o .p) (o .inv l located tables some) (u .before .before .before .before .if1 .taken) (u .before .instruction-at .result) (said (u .before) l located) (u .effect-of .result) (effect-said u l located tables) _ (opens (c .before .before .part .given .1)) (omega (arith, u .before .before .before .before .before .before .before .before .before .before .before .before .pre .5, u .before .before .before .before .before .before .before .before .before .before .before .before .pre .6)))
+
+-- `Effect::Begins(stated) =>`
+enum-known-stated : tie.Need-enum-known-stated Inv-loop μ-loop
+enum-known-stated c = search needs
+
+-- `depth += 1`
+add-depth-2 : tie.Need-add-depth-2 Inv-loop μ-loop
+add-depth-2 c = omega (arith, here (c .before .before .before .before .before .before .before .before .before) .depth-bound)
+
+-- `frames[depth] = opened_frame(Part::Block(stated), at, locks, sofar)`
+opened-frame-requires-2 : tie.Need-opened-frame-requires-2 Inv-loop μ-loop
+opened-frame-requires-2 c κs = search needs
+
+mul-frames-2 : tie.Need-mul-frames-2 Inv-loop μ-loop
+mul-frames-2 c = let u = c .before .before .before .before in let a = u .before .before .before .before .before .before .before .before .before .before .before .before .args in let o = u .before .before .before .before .before .before .loop in omega (arith, opens-room (a .s .now) (a .l) (a .c .number) (a .c .start) (a .c .count) (a .c .first) (a .report .now) (o .report) (o .frames) (o .depth) (o .locks) (o .sofar) (o .p) (here (u .before .before .before .before .before .before)) (u .before .before .before .before .if1 .taken) (u .before .instruction-at .result) (said (u .before) (a .l) (u .before .before .before .before .before .before .before .before .before .before .before .before .pre .1)) (u .effect-of .result) (effect-said u (a .l) (u .before .before .before .before .before .before .before .before .before .before .before .before .pre .1) (u .before .before .before .before .before .before .before .before .before .before .before .before .pre .2)) _ (begins (c .before .before .stated .given .1)))
+
+array-set-from-frames-2 : tie.Need-array-set-from-frames-2 Inv-loop μ-loop
+array-set-from-frames-2 c = let u = c .before .before .before .before in let a = u .before .before .before .before .before .before .before .before .before .before .before .before .args in let o = u .before .before .before .before .before .before .loop in omega (arith, opens-room (a .s .now) (a .l) (a .c .number) (a .c .start) (a .c .count) (a .c .first) (a .report .now) (o .report) (o .frames) (o .depth) (o .locks) (o .sofar) (o .p) (here (u .before .before .before .before .before .before)) (u .before .before .before .before .if1 .taken) (u .before .instruction-at .result) (said (u .before) (a .l) (u .before .before .before .before .before .before .before .before .before .before .before .before .pre .1)) (u .effect-of .result) (effect-said u (a .l) (u .before .before .before .before .before .before .before .before .before .before .before .before .pre .1) (u .before .before .before .before .before .before .before .before .before .before .before .before .pre .2)) _ (begins (c .before .before .stated .given .1)), here (u .before .before .before .before .before .before) .frames-length)
+
+loop-less-6 : tie.Need-loop-less-6 Inv-loop μ-loop
+loop-less-6 c = omega arith
+
+loop-again-6 : tie.Need-loop-again-6 Inv-loop μ-loop
+loop-again-6 c =
+    let u = c .before .before .before .before in
+    let a = u .before .before .before .before .before .before .before .before .before .before .before .before .args in
+    let o = u .before .before .before .before .before .before .loop in
+    λ l located tables some. rw (c .opened-frame2 .ensures) (scanning-opens (a .s .now) l (a .c .number) (a .c .start) (a .c .count) (a .c .first) (a .report .now) (o .report) (o .frames) (o .depth) (o .locks) (o .sofar) (o .p) (o .inv l located tables some) (u .before .before .before .before .if1 .taken) (u .before .instruction-at .result) (said (u .before) l located) (u .effect-of .result) (effect-said u l located tables) _ (begins (c .before .before .stated .given .1)) (omega (arith, u .before .before .before .before .before .before .before .before .before .before .before .before .pre .5, u .before .before .before .before .before .before .before .before .before .before .before .before .pre .6)))
 
 -- `report[at] = CLOSER`
 enum-told-3 : tie.Need-enum-told-3 Inv-loop μ-loop
@@ -259,17 +287,17 @@ enum-told-4 c = search needs
 other-part-requires : tie.Need-other-part-requires Inv-loop μ-loop
 other-part-requires c κs = search needs
 
-mul-frames-2 : tie.Need-mul-frames-2 Inv-loop μ-loop
-mul-frames-2 c = omega (arith, here (c .before .before .before .before .before .before .before .before .before .before .before .before .before) .depth-bound)
+mul-frames-3 : tie.Need-mul-frames-3 Inv-loop μ-loop
+mul-frames-3 c = omega (arith, here (c .before .before .before .before .before .before .before .before .before .before .before .before .before) .depth-bound)
 
-array-set-from-frames-2 : tie.Need-array-set-from-frames-2 Inv-loop μ-loop
-array-set-from-frames-2 c = omega (arith, here (c .before .before .before .before .before .before .before .before .before .before .before .before .before) .depth-bound, here (c .before .before .before .before .before .before .before .before .before .before .before .before .before) .frames-length)
+array-set-from-frames-3 : tie.Need-array-set-from-frames-3 Inv-loop μ-loop
+array-set-from-frames-3 c = omega (arith, here (c .before .before .before .before .before .before .before .before .before .before .before .before .before) .depth-bound, here (c .before .before .before .before .before .before .before .before .before .before .before .before .before) .frames-length)
 
-loop-less-6 : tie.Need-loop-less-6 Inv-loop μ-loop
-loop-less-6 c = omega arith
+loop-less-7 : tie.Need-loop-less-7 Inv-loop μ-loop
+loop-less-7 c = omega arith
 
-loop-again-6 : tie.Need-loop-again-6 Inv-loop μ-loop
-loop-again-6 c =
+loop-again-7 : tie.Need-loop-again-7 Inv-loop μ-loop
+loop-again-7 c =
     let u = c .before .before .before .before .before .before .before .before in
     let a = u .before .before .before .before .before .before .before .before .before .before .before .before .args in
     let o = u .before .before .before .before .before .before .loop in
@@ -302,11 +330,11 @@ sub-depth c =
 then-requires-4 : tie.Need-then-requires-4 Inv-loop μ-loop
 then-requires-4 c κs = search needs
 
-loop-less-7 : tie.Need-loop-less-7 Inv-loop μ-loop
-loop-less-7 c = omega arith
+loop-less-8 : tie.Need-loop-less-8 Inv-loop μ-loop
+loop-less-8 c = omega arith
 
-loop-again-7 : tie.Need-loop-again-7 Inv-loop μ-loop
-loop-again-7 c =
+loop-again-8 : tie.Need-loop-again-8 Inv-loop μ-loop
+loop-again-8 c =
     let u = c .before .before .before .before .before .before .before .before .before in
     let a = u .before .before .before .before .before .before .before .before .before .before .before .before .args in
     let o = u .before .before .before .before .before .before .loop in
@@ -410,6 +438,13 @@ walk-code-spec =
     array-set-from-frames
     loop-less-5
     loop-again-5
+    enum-known-stated
+    add-depth-2
+    opened-frame-requires-2
+    mul-frames-2
+    array-set-from-frames-2
+    loop-less-6
+    loop-again-6
     enum-told-3
     slice-write-report-5
     mul-frame
@@ -417,17 +452,17 @@ walk-code-spec =
     part-end-requires
     enum-told-4
     other-part-requires
-    mul-frames-2
-    array-set-from-frames-2
-    loop-less-6
-    loop-again-6
+    mul-frames-3
+    array-set-from-frames-3
+    loop-less-7
+    loop-again-7
     enum-known-own
     report-byte-requires
     slice-write-report-6
     sub-depth
     then-requires-4
-    loop-less-7
-    loop-again-7
+    loop-less-8
+    loop-again-8
     enum-known-refusal
     same-length
     returns
