@@ -550,6 +550,34 @@ fn one_writer() -> String {
     .concat()
 }
 
+/// What `crates/cases` prints of what blocks state.
+fn statements() -> String {
+    let guarded = |name, code: Vec<Instruction>| judged(name, report(GUARDED_BY_K0, &code));
+    let taken = |statement| stated(statement, &[TAKE]);
+    let given = |statement| [vec![TAKE], stated(statement, &[GIVE])].concat();
+    let both = |statement| stated(statement, &[TAKE, GIVE]);
+    let line = |name, statement| {
+        let text = line_in(48, &file(1, &[], &[&both(statement)]), 5).unwrap();
+        format!("{name}, its line: {}", String::from_utf8(text).unwrap())
+    };
+    let inner = stated(4, &[taken(4), vec![GIVE]].concat());
+    [
+        guarded("B, states B", stated(1, &[])),
+        guarded("L, states L", given(2)),
+        guarded("R, states R", [taken(3), vec![GIVE]].concat()),
+        guarded("A, states A", stated(4, &[TAKE, READ, WRITE, GIVE])),
+        guarded("B, states A", stated(4, &[])),
+        guarded("A, states B", both(1)),
+        guarded("L, states R", given(3)),
+        judged("T, states A", report(OPEN, &stated(4, &[WRITE, WRITE]))),
+        guarded("A, states A, around R, states A", inner),
+        guarded("B, states T", stated(5, &[])),
+        line("states A", 4),
+        line("states nothing", 0),
+    ]
+    .concat()
+}
+
 /// A thread at place 6 with 3 in r0 and 5 in r1 after a step of this code, where v0 is 9.
 fn moved(name: &str, code: &[Instruction]) -> String {
     let file = file(1, &[[2, 0, 0, 0, 0, 9]], &[code]);
@@ -591,8 +619,8 @@ fn moves() -> String {
     .concat()
 }
 
-/// `crates/cases` executes the cases without a star and the mistakes through the verified calls,
-/// and moves of a thread whose record is lent.
+/// `crates/cases` executes cases without a star, the mistakes and what blocks state through the
+/// verified calls, and moves of a thread whose record is lent.
 #[test]
 fn the_test_program_prints_these_answers() {
     let of = |name, variable, code: &[Instruction]| judged(name, report(variable, code));
@@ -626,6 +654,7 @@ fn the_test_program_prints_these_answers() {
         ),
         writers(),
         one_writer(),
+        statements(),
         moves(),
     ];
     let stdout = include_str!("../../crates/cases/stdout");

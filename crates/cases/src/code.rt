@@ -36,7 +36,12 @@ pub fn again_to(n: u8) -> [u8; 4] {
 }
 
 pub fn atomic_to(n: u8) -> [u8; 4] {
-    [0x34, 0, 0, n]
+    stating_to(0, n)
+}
+
+// An ATOMIC that states this: a report byte, or 0.
+pub fn stating_to(stated: u8, n: u8) -> [u8; 4] {
+    [0x34, stated, 0, n]
 }
 
 // Judges the file with this code and a variable of this kind.

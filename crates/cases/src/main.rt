@@ -1,11 +1,12 @@
 // The standard's cases that have no star, executed through the public calls, then those of its mistakes that look reasonable which a call
-// can show, then moves of a thread whose record is lent. Each prints a line; the file stdout beside src/ holds what the standard says.
+// can show, then those of what a block states, then moves of a thread whose record is lent. Each prints a line; the file stdout beside src/ holds what the standard says.
 // (The starred cases are proved: crates/hogunlas/specs/Cases.antt.)
 mod code;
 mod mistakes;
 mod moves;
 mod show;
 mod stated;
+mod statements;
 
 fn main() {
     stated::empty_file();
@@ -22,6 +23,10 @@ fn main() {
     mistakes::locks_of_the_then_part();
     mistakes::writers_of_an_open_variable();
     mistakes::one_writer();
+    statements::true_statements();
+    statements::false_statements();
+    statements::other_offences();
+    statements::shown();
     moves::results();
     moves::places();
 }

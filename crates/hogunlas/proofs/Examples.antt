@@ -6,6 +6,10 @@
 --     sixteen-open, seventeen-open   16 entries open pass, a 17th is refused
 --     while-outside, while-within    a WHILE around TAKE, GIVE is T, and refused within a block
 --     else-part-locks, parts-differ  the else part begins with the set at the IF, and both parts must end with equal sets
+--     stated-printout                what bench prints for a block that states what it is
+--     stated-true, stated-above, stated-top, stated-five
+--                                    a true statement, one above the atomicity, one of a block that is T, and one of T
+--     statement-taken-out            a file with its statement taken out
 use mathlib.Core.Path.{_≡_, refl}
 use mathlib.Core.List.{List, [], _∷_, _++_}
 use Prim.Native.Nat.{ℕ, zero, suc, _+_}
@@ -13,8 +17,9 @@ use lib.ListN.{replicate}
 use Rattle.machine.specs.Run.{run}
 use Rattle.machine.specs.State.{start}
 use Rattle.printout.specs.Text.{ascii}
+use Rattle.program.specs.Unstated.{isStatementAmong, isStatementIn, isStatement, clearedFrom, withoutStatements}
 use Rattle.hogunlas.specs.Calls.{benchOutput}
-use Rattle.hogunlas.specs.Cases.{numbers, refusal, judgeSays, file, guardedVariable, TAKE, GIVE, READ, ATOMIC, END}
+use Rattle.hogunlas.specs.Cases.{numbers, refusal, judgeSays, file, guardedVariable, TAKE, GIVE, READ, ATOMIC, END, SET}
 use Rattle.hogunlas.proofs.Definitions.{definitions}
 
 -- "Given .. it prints exactly": the example file and its ten lines
@@ -87,3 +92,39 @@ else-part-locks = refl
 pub parts-differ : judgeSays (file guardedVariable (IF 2 ++ TAKE ++ ELSE 1 ++ END ++ GIVE)) ≡ refusal 12 25
 unfolding definitions
 parts-differ = refl
+
+-- an ATOMIC that states a report byte
+abbrev STATES : (byte n : ℕ) → List ℕ
+STATES byte n = 0x34 ∷ byte ∷ 0x00 ∷ n ∷ []
+
+-- "An ATOMIC shows the letter that it states after the distance": `34 04 00 03 0 ATOMIC 3 A A`
+pub stated-printout : benchOutput (file [] (STATES 4 3 ++ TAKE ++ GIVE ++ END)) ≡ ascii
+    "01 version 1\n01 locks 1\n01 threads 1\n0000 variables 0\n0010 thread 0 code 4\n34 04 00 03 0 ATOMIC 3 A A\n20 00 00 00 1 TAKE k0 R\n21 00 00 00 2 GIVE k0 L\n35 00 00 00 3 END -\nthread 0 A\n"
+unfolding definitions
+stated-printout = refl
+
+-- "A true statement .. of A", also around a true one of R
+pub stated-true : judgeSays (file guardedVariable (STATES 4 5 ++ STATES 3 2 ++ TAKE ++ END ++ GIVE ++ END)) ≡ numbers (4 ∷ 3 ∷ 3 ∷ 0 ∷ 2 ∷ 0 ∷ 4 ∷ [])
+unfolding definitions
+stated-true = refl
+
+-- "at or above is not enough": a block of B that states A is 18 at its END
+pub stated-above : judgeSays (file guardedVariable (STATES 4 1 ++ END)) ≡ refusal 18 17
+unfolding definitions
+stated-above = refl
+
+-- "13 before 18"
+pub stated-top : judgeSays (file guardedVariable (STATES 4 5 ++ TAKE ++ GIVE ++ TAKE ++ GIVE ++ END)) ≡ refusal 13 33
+unfolding definitions
+stated-top = refl
+
+-- "T cannot be stated: field a of 5 is a 7 at the ATOMIC"
+pub stated-five : judgeSays (file guardedVariable (STATES 5 1 ++ END)) ≡ refusal 7 13
+unfolding definitions
+stated-five = refl
+
+-- "field a of every ATOMIC made 0", and no other byte: SET's register and number are 4 too
+pub statement-taken-out :
+    withoutStatements (file guardedVariable (STATES 4 3 ++ SET 4 4 ++ READ ++ END)) ≡ file guardedVariable (ATOMIC 3 ++ SET 4 4 ++ READ ++ END)
+unfolding definitions isStatementAmong isStatementIn isStatement clearedFrom withoutStatements
+statement-taken-out = refl
