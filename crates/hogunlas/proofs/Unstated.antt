@@ -3,7 +3,7 @@
 --     judged-alike, ran-alike   what judge and run answer, for every list and room
 --     unstated-alike            ... and what their buffers then hold
 use Prim.Native.Nat.{ℕ}
-use mathlib.Core.Path.{_≡_, refl, sym, ap, _∙_}
+use mathlib.Core.Path.{_≡_, ap}
 use mathlib.Core.List.{List}
 use lib.ListN.{length}
 use Rattle.judge.proofs.Unstated.{accept-unstated}

@@ -31,13 +31,13 @@ use Rattle.program.specs.declared.instruction.Instruction.{Instruction}
 use Rattle.program.specs.declared.variable.Kind.{Kind}
 use Rattle.program.specs.declared.variable.Kind.the-variants.{Guarded, Own, Fixed, Open}
 use Rattle.judge.specs.Acceptance.{sound, accept}
-use Rattle.judge.specs.Discipline.{kindAt, accessedSet, mayRace, kindAtomicity, accessAtomicity, accessMover, moverOf, atomicityOf}
-use Rattle.judge.specs.Rules.{Legal, states-nothing, Typed, typed-done, typed-plain, typed-choice, typed-loop, typed-block, TypedCodes, typed-none, typed-code}
+use Rattle.judge.specs.Discipline.{kindAt, mayRace, kindAtomicity, accessAtomicity, accessMover, moverOf, atomicityOf}
+use Rattle.judge.specs.Rules.{states-nothing, Typed, typed-done, typed-plain, typed-choice, typed-loop, typed-block, TypedCodes, typed-none, typed-code}
 use Rattle.judge.specs.LockSet.{empty}
 use Rattle.judge.specs.Internal.Earlier.{writesBelow, withWriter, judgeBefore}
 use Rattle.judge.specs.Internal.Nested.{Nested}
 use Rattle.judge.specs.declared.lock_set.LockSet.{LockSet}
-use Rattle.judge.proofs.Legal.{judged-legal, legal-judged}
+use Rattle.judge.proofs.Legal.{legal-alike}
 use Rattle.judge.proofs.RulesFile.{sound-codes-nested, accepted-exactly}
 use Rattle.judge.proofs.RulesProgram.{judged-codes-typed}
 use Rattle.judge.proofs.Unstated.{sound-unstated}
@@ -110,17 +110,10 @@ module _ (p : Program) where
   unfolding atomicityOf moverOf
   atomicity-below c s i = mover-below c s (accessOf i)
 
-  -- the lock discipline does not look at who writes
-  same-set : (c d : ℕ) (x : Access) (s : LockSet) → accessedSet (withWriter p) c d x s ≡ accessedSet p c d x s
-  unfolding accessedSet withWriter kindAt
-  same-set c d none s = refl
-  same-set c d (reads v) s = refl
-  same-set c d (writes v a) s = refl
-  same-set c d (takes k) s = refl
-  same-set c d (gives k) s = refl
-
-  still-legal : (c : ℕ) (x : Access) (s s′ : LockSet) → Legal (withWriter p) c x s s′ → Legal p c x s s′
-  still-legal c x s s′ l = judged-legal p c x 0 s (sym (same-set c 0 x s) ∙ legal-judged (withWriter p) c l 0)
+  -- the kinds of variables are the same
+  same-kind : (v : ℕ) → kindAt p v ≡ kindAt (withWriter p) v
+  unfolding kindAt withWriter
+  same-kind v = refl
 
   -- ---- the rules
 
@@ -131,11 +124,11 @@ module _ (p : Program) where
   pub still-typed : {c : ℕ} {s s′ : LockSet} {x : Code} {a : Atomicity} → Typed (withWriter p) c s x s′ a → Still c s (unstatedCode x) s′ a
   unfolding unstatedCode
   still-typed typed-done = (atomicity.Both, order-refl atomicity.Both, typed-done)
-  still-typed {c} (typed-plain {i} {s = s} {s′ = s′} {a = a} f l d) =
+  still-typed {c} (typed-plain {i} {s = s} {a = a} f l d) =
       let (b, h, e) = still-typed d in (
         composition (atomicityOf p c s i) b,
         then-mono (atomicityOf p c s i) (atomicityOf (withWriter p) c s i) b a (atomicity-below c s i) h,
-        typed-plain f (still-legal c (accessOf i) s s′ l) e,
+        typed-plain f (legal-alike same-kind l) e,
       )
   still-typed (typed-choice {x = x} {y = y} {z = z} d₁ d₂ d) =
       let (b₁, h₁, e₁) = still-typed d₁ in

@@ -1,5 +1,5 @@
 -- Judging a program with its statements taken out: what was judged fine has the same report. Assumes nothing.
---     set-unstated, atomicity-unstated    the lock discipline and an instruction's atomicity do not ask for statements
+--     kind-unstated, atomicity-unstated   neither the kinds of variables nor an instruction's atomicity change
 --     typed-unstated                      what the rules derive, they derive without the statements, with the same report
 --     code-unstated, codes-unstated       ... of a code, and of the codes from one on
 --     program-unstated                    ... of a program
@@ -24,13 +24,13 @@ use Rattle.program.specs.Internal.Unstated.{unstatedCode, unstatedSection, unst
 use Rattle.program.specs.declared.found.Found.the-variants.{Nowhere}
 use Rattle.program.specs.declared.instruction.Instruction.{Instruction}
 use Rattle.judge.specs.Acceptance.{Accepted, sound, accept}
-use Rattle.judge.specs.Discipline.{kindAt, accessedSet, mayRace, kindAtomicity, accessAtomicity, accessMover, moverOf, atomicityOf}
+use Rattle.judge.specs.Discipline.{kindAt, mayRace, kindAtomicity, accessAtomicity, accessMover, moverOf, atomicityOf}
 use Rattle.judge.specs.LockSet.{empty}
-use Rattle.judge.specs.Rules.{Legal, states-nothing, Typed, typed-done, typed-plain, typed-choice, typed-loop, typed-block, report, TypedCode, codeReport, TypedCodes, typed-none, typed-code, codesReport}
+use Rattle.judge.specs.Rules.{states-nothing, Typed, typed-done, typed-plain, typed-choice, typed-loop, typed-block, report, TypedCode, codeReport, TypedCodes, typed-none, typed-code, codesReport}
 use Rattle.judge.specs.Judging.{judgeProgram}
 use Rattle.judge.specs.Internal.Nested.{Nested}
 use Rattle.judge.specs.declared.lock_set.LockSet.{LockSet}
-use Rattle.judge.proofs.Legal.{judged-legal, legal-judged}
+use Rattle.judge.proofs.Legal.{legal-alike}
 use Rattle.judge.proofs.RulesFile.{accept-judged, sound-codes-nested}
 use Rattle.judge.proofs.RulesProgram.{judged-codes-typed, typed-codes-judged}
 
@@ -41,16 +41,9 @@ module _ (p : Program) where
 
   -- ---- an instruction
 
-  set-unstated : (c d : ℕ) (x : Access) (s : LockSet) → accessedSet bare c d x s ≡ accessedSet p c d x s
-  unfolding accessedSet kindAt unstatedProgram
-  set-unstated c d none s = refl
-  set-unstated c d (reads v) s = refl
-  set-unstated c d (writes v a) s = refl
-  set-unstated c d (takes k) s = refl
-  set-unstated c d (gives k) s = refl
-
-  legal-unstated : (c : ℕ) (x : Access) (s s′ : LockSet) → Legal p c x s s′ → Legal bare c x s s′
-  legal-unstated c x s s′ l = judged-legal bare c x 0 s (set-unstated c 0 x s ∙ legal-judged p c l 0)
+  kind-unstated : (v : ℕ) → kindAt bare v ≡ kindAt p v
+  unfolding kindAt unstatedProgram
+  kind-unstated v = refl
 
   access-unstated : (c v : ℕ) (w : Bool) → accessAtomicity bare c v w ≡ accessAtomicity p c v w
   unfolding accessAtomicity kindAt unstatedProgram
@@ -77,10 +70,10 @@ module _ (p : Program) where
   typed-unstated : {c : ℕ} {s s′ : LockSet} {x : Code} {a : Atomicity} (D : Typed p c s x s′ a) → Bare c s x s′ a (report D)
   unfolding report unstatedCode
   typed-unstated typed-done = (typed-done, refl)
-  typed-unstated {c} (typed-plain {i = i} {next = next} {s = s} {s′ = s′} {s″ = s″} {a = a} f l rest) =
+  typed-unstated {c} (typed-plain {i = i} {next = next} {s = s} {s″ = s″} {a = a} f l rest) =
       let (E, e) = typed-unstated rest in
       subst (λ (b : Atomicity). (F : Typed bare c s (unstatedCode (plain i next)) s″ (composition b a)) × (report F ≡ reportByte b ∷ report rest)) (atomicity-unstated c s i)
-      (typed-plain f (legal-unstated c (accessOf i) s s′ l) E, rw e)
+      (typed-plain f (legal-alike kind-unstated l) E, rw e)
   typed-unstated (typed-choice first second rest) =
       let (E₁, e₁) = typed-unstated first in
       let (E₂, e₂) = typed-unstated second in

@@ -2,28 +2,23 @@
 --     move-unstated, outcome-unstated   a step
 --     run-unstated                      a list
 use Prim.Native.Nat.{ℕ}
-use mathlib.Core.Path.{_≡_, refl, sym, ap, _∙_}
-use mathlib.Core.List.{List, [], _∷_, map}
-use lib.ListN.{length, getD, length-map, List·getD-map}
-use Rattle.program.proofs.Unstated.{stating, form-unstated, access-unstated, code-unstated}
+use mathlib.Core.Path.{_≡_, refl}
+use mathlib.Core.List.{List, [], _∷_}
+use lib.ListN.{length-map, List·getD-map}
+use Rattle.program.proofs.Unstated.{same-unstated, form-unstated, access-unstated, code-unstated}
 use Rattle.program.specs.Layout.{Program, codeOf}
-use Rattle.program.specs.View.{accessOf}
-use Rattle.program.specs.Internal.Unstated.{unstated, unstatedProgram, Stating, nothing, something}
+use Rattle.program.specs.Internal.Unstated.{unstated, unstatedProgram}
 use Rattle.program.specs.declared.instruction.Instruction.{Instruction}
 use Rattle.program.specs.declared.instruction.Instruction.the-variants.{End}
-use Rattle.machine.specs.Run.{Run, countedFor, runFrom, run}
+use Rattle.machine.specs.Run.{Run, runFrom, run}
 use Rattle.machine.specs.State.{State, start, threadOf}
-use Rattle.machine.specs.Step.{Result, resultOf, registersAfter, placeAfter, threadAfter, instructionOf, moveBy, outcome, step}
+use Rattle.machine.specs.Step.{resultOf, registersAfter, placeAfter, threadAfter, instructionOf, moveBy, outcome, step}
 
 -- ---- an instruction
 
 result-unstated : (i : Instruction) (x : ℕ) (r : List ℕ) → resultOf (unstated i) x r ≡ resultOf i x r
-unfolding unstated resultOf
-result-unstated i x r = cases i (stating i)
-  where
-    cases : (i : Instruction) → Stating i → resultOf (unstated i) x r ≡ resultOf i x r
-    cases i (nothing e) = ap (λ (j : Instruction). resultOf j x r) e
-    cases _ something = refl
+unfolding resultOf
+result-unstated i x r = same-unstated (λ (j : Instruction). resultOf j x r) (λ a n. refl) i
 
 move-unstated : (i : Instruction) (t : ℕ) (s : State) → moveBy (unstated i) t s ≡ moveBy i t s
 unfolding moveBy threadAfter placeAfter registersAfter

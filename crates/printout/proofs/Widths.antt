@@ -8,9 +8,9 @@
 --     lines-short                      the lines of a sound file
 --     line-short, line-fits            each of them
 --     longest                          one that has 42 bytes
-use Prim.Native.Nat.{ℕ, zero, suc, _+_, _-_, _*_, _/_, _<_, _≤_}
+use Prim.Native.Nat.{ℕ, zero, suc, _+_, _-_, _*_, _<_, _≤_}
 use Prim.Native.String.{String}
-use mathlib.Core.Path.{_≡_, refl, sym, ap, _∙_}
+use mathlib.Core.Path.{_≡_, refl, ap, _∙_}
 use mathlib.Core.Bool.{Bool, true, false}
 use mathlib.Core.List.{List, [], _∷_, _++_, flatMap}
 use lib.Dec.{ltb, eqb}
@@ -22,18 +22,15 @@ use Rattle.program.proofs.Decode.{decode-holds}
 use Rattle.program.proofs.Sound.{sound-file}
 use Rattle.program.specs.Answer.{fine}
 use Rattle.program.specs.Choice.{choose}
-use Rattle.program.specs.Field.{byteAt, pairAt, wordAt}
+use Rattle.program.specs.Field.{byteAt, wordAt}
 use Rattle.program.specs.Instruction.{decode, decodeAt, decodedInstruction}
 use Rattle.program.specs.Layout.{instructionsAt, variablesAt, codesAt, programOf, reading}
 use Rattle.program.specs.Limits.{lineSize, longestLine, lockLimit, threadLimit, variableLimit, instructionLimit, recordsStart, recordOffset}
-use Rattle.program.specs.Variable.{Variable, recorded, recordAt, variableAt}
+use Rattle.program.specs.Variable.{recorded, recordAt, variableAt}
 use Rattle.program.specs.Variable as recordings
 use Rattle.program.specs.Internal.Sound.{SoundSections, SoundFile, countAt}
-use Rattle.program.specs.declared.instruction.Instruction.{Instruction}
 use Rattle.program.specs.declared.layout.Layout.{Layout}
-use Rattle.program.specs.declared.variable.Kind.{Kind}
 use Rattle.program.specs.declared.variable.Kind.the-variants.{Guarded, Own, Fixed, Open}
-use Rattle.program.specs.declared.variable.Recorded.{Recorded}
 use Rattle.program.specs.declared.variable.Recorded.the-variants.{Valid, Invalid}
 use Rattle.printout.specs.Line.{raw, numbered, letter, headLine, kindWords, variableLine, variableLines, statedWords, instructionWords, instructionLine, codeLines, sectionLines, wholeLines, lines}
 use Rattle.printout.specs.Text.{ascii, hex, decimal, spaced, lineOf}

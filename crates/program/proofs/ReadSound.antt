@@ -5,19 +5,17 @@
 --                      a code section, and all of them
 --     file-sound       the whole file
 use Prim.Native.Nat.{ℕ, zero, suc, _+_, _*_, _/_, _%_, _≤_}
-use mathlib.Core.Path.{_≡_, refl, sym, _∙_, ap}
-use mathlib.Core.List.{List, []}
+use mathlib.Core.Path.{_≡_, refl}
+use mathlib.Core.List.{List}
 use lib.ListN.{length}
-use lib.Dec.{leb, eqb}
 use native.Mathlib.Omega.{arith}
 use borrow.Author.Tests.{le-leb, eq-eqb}
 use Rattle.program.specs.Answer.{fine}
 use Rattle.program.specs.Field.{byteAt, pairAt, cursor, present, byteField, pairField, section}
 use Rattle.program.specs.Instruction.{decodeAt}
 use Rattle.program.specs.Instruction
-use Rattle.program.specs.Layout.{instructionsAt, variableSection, codeSection, codeSections, fields, reading}
+use Rattle.program.specs.Layout.{variableSection, codeSection, codeSections, fields, reading}
 use Rattle.program.specs.Limits.{variableSize, instructionSize, variableSectionLimit, codeSectionLimit, recordsStart, recordOffset}
-use Rattle.program.specs.Nesting.{firstBroken}
 use Rattle.program.specs.Variable.{recordAt}
 use Rattle.program.specs.Variable
 use Rattle.program.specs.Internal.Sound.{countAt, SoundSection, SoundSections, SoundFile}

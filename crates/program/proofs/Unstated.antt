@@ -1,22 +1,21 @@
 -- An instruction, a code and a program with its statements taken out (specs/Internal/Unstated.antt): what of them stays. Assumes nothing.
 --     stating                                  an instruction is an ATOMIC, or states nothing
---     form-unstated, access-unstated           its form and its access stay
+--     same-unstated                            what does not look at what an ATOMIC states stays
+--     form-unstated, access-unstated           ... its form and its access
 --     plain-unstated                           a plain instruction states nothing
 --     nested-unstated                          nesting stays
 --     writes-unstated, structured-unstated     the structured code is that of before, its statements taken out
 --     written-unstated                         the threads that write a variable stay
 --     code-unstated                            a code of a program, by its number
-use Prim.Native.Nat.{ℕ, suc, _≤_}
-use mathlib.Core.Path.{_≡_, refl, sym, ap, _∙_, subst}
-use mathlib.Core.Bool.{Bool, not, _&&_, _||_}
+use Prim.Native.Nat.{ℕ, suc}
+use mathlib.Core.Path.{_≡_, refl, sym, ap, _∙_}
 use mathlib.Core.List.{List, [], _∷_, map, map-append}
-use lib.Dec.{eqb}
-use lib.ListN.{length, getD, List·getD-map}
+use lib.ListN.{List·getD-map}
 use Rattle.program.specs.Code.{Code, done, plain, choice, loop, block, size, structured}
 use Rattle.program.specs.Layout.{Program, CodeSection, codeOf}
 use Rattle.program.specs.Nesting.{OpenAfter, broken, opened, nest, goOn, firstBroken}
-use Rattle.program.specs.View.{View, own, Plain, viewOf, accessOf, formOf}
-use Rattle.program.specs.Writers.{isWriteOf, hasWrite, writtenFrom, writtenByOther}
+use Rattle.program.specs.View.{View, Plain, accessOf, formOf}
+use Rattle.program.specs.Writers.{hasWrite, writtenFrom, writtenByOther}
 use Rattle.program.specs.Internal.Sections.{noSection}
 use Rattle.program.specs.Internal.Seen.{Seen, seen-local, seen-read, seen-write, seen-take, seen-give, seen-if, seen-else, seen-while, seen-again, seen-atomic, seen-end, seen}
 use Rattle.program.specs.Internal.Unstated.{unstatedAs, unstated, unstatedCode, unstatedSection, unstatedProgram, Stating, nothing, something}
@@ -48,21 +47,22 @@ stating i = cases i (seen i)
     cases (Atomic a n) seen-atomic = something
     cases End seen-end = nothing refl
 
-pub form-unstated : (i : Instruction) → formOf (unstated i) ≡ formOf i
-unfolding unstated formOf
-form-unstated i = cases i (stating i)
+-- what does not look at what an ATOMIC states stays
+pub same-unstated : {A : Type 0} (f : Instruction → A) → ((a n : ℕ) → f (Atomic 0 n) ≡ f (Atomic a n)) → (i : Instruction) → f (unstated i) ≡ f i
+unfolding unstated
+same-unstated f blind i = cases i (stating i)
   where
-    cases : (i : Instruction) → Stating i → formOf (unstated i) ≡ formOf i
-    cases i (nothing e) = ap formOf e
-    cases _ something = refl
+    cases : (i : Instruction) → Stating i → f (unstated i) ≡ f i
+    cases i (nothing e) = ap f e
+    cases _ (something {a} {n}) = blind a n
+
+pub form-unstated : (i : Instruction) → formOf (unstated i) ≡ formOf i
+unfolding formOf
+form-unstated = same-unstated formOf (λ a n. refl)
 
 pub access-unstated : (i : Instruction) → accessOf (unstated i) ≡ accessOf i
-unfolding unstated accessOf
-access-unstated i = cases i (stating i)
-  where
-    cases : (i : Instruction) → Stating i → accessOf (unstated i) ≡ accessOf i
-    cases i (nothing e) = ap accessOf e
-    cases _ something = refl
+unfolding accessOf
+access-unstated = same-unstated accessOf (λ a n. refl)
 
 plain-unstated : (i : Instruction) → formOf i ≡ Plain → unstated i ≡ i
 unfolding formOf

@@ -9,12 +9,12 @@
 --                                      code sections
 --     file-cleared                     the whole file
 use Prim.Native.Nat.{ℕ, zero, suc, _+_, _*_, _/_, _<_, _≤_}
-use mathlib.Core.Path.{_≡_, refl, sym, _∙_, ap, subst}
+use mathlib.Core.Path.{_≡_, refl, sym, _∙_, ap}
 use mathlib.Core.Logic.{_≢_}
 use mathlib.Core.Bool.{Bool, true, false, _&&_, _||_, and-eq-true-iff}
 use mathlib.Core.List.{List, [], _∷_, map}
 use lib.Dec.{ltb, eqb}
-use lib.ListN.{length, getD}
+use lib.ListN.{length}
 use native.Mathlib.Omega.{arith}
 use borrow.Author.Tests.{eqb-true, eq-eqb, ne-eqb}
 use Rattle.program.specs.Answer.{fine}
@@ -22,14 +22,13 @@ use Rattle.program.specs.Choice.{choose}
 use Rattle.program.specs.Field.{byteAt, pairAt}
 use Rattle.program.specs.Instruction.{Decoded, Valid, Invalid, TableRow, table, isRightRow, lookUp, decode, decodeAt, decodedInstruction}
 use Rattle.program.specs.Instruction
-use Rattle.program.specs.Layout.{CodeSection, instructionsAt, variablesAt, codesAt, programOf, reading}
+use Rattle.program.specs.Layout.{instructionsAt, variablesAt, codesAt, programOf, reading}
 use Rattle.program.specs.Limits.{statementLimit, recordsStart, recordOffset}
-use Rattle.program.specs.Nesting.{firstBroken}
 use Rattle.program.specs.Unstated.{isStatementAmong, isStatementIn, isStatement, clearedFrom, withoutStatements}
 use Rattle.program.specs.Variable.{variableAt, recordAt}
 use Rattle.program.specs.Variable
 use Rattle.program.specs.View.{View, own, shares, nests, states, viewOf}
-use Rattle.program.specs.Internal.Sound.{AllValid, countAt, SoundSection, SoundSections, SoundFile}
+use Rattle.program.specs.Internal.Sound.{countAt, SoundSection, SoundSections, SoundFile}
 use Rattle.program.specs.Internal.Unstated.{unstatedAs, unstated, unstatedSection, unstatedProgram}
 use Rattle.program.specs.declared.instruction.Instruction.{Instruction}
 use Rattle.program.specs.declared.instruction.Instruction.the-variants.{Atomic}

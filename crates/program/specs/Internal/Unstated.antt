@@ -5,7 +5,7 @@
 --     Stating                          an ATOMIC, or an instruction that states nothing
 use Prim.Native.Nat.{ℕ}
 use mathlib.Core.Path.{_≡_}
-use mathlib.Core.List.{List, map}
+use mathlib.Core.List.{map}
 use Rattle.program.specs.Code.{Code, done, plain, choice, loop, block}
 use Rattle.program.specs.Layout.{Program, CodeSection}
 use Rattle.program.specs.View.{View, own, shares, nests, states, viewOf}
