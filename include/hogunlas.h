@@ -89,8 +89,8 @@ typedef struct {
  * opener, 0 at ELSE, AGAIN and END), then a byte for the thread's whole code:
  * B 1 (both mover), L 2 (left mover), R 3 (right mover), A 4 (atomic), T 5 (none of these).
  *
- * An ATOMIC whose field a is not 0 states the byte that the report has for it; another byte is
- * refused (18).
+ * An ATOMIC's field a of 1 to 4 states the byte that the report has for it, and 0 states nothing.
+ * A false statement is refused (18); a field above 4 is a 7.
  */
 hogunlas_judged hogunlas_judge(const uint8_t *file, size_t file_length,
                                uint8_t *report, size_t report_length);

@@ -1,4 +1,4 @@
-//! The standard's cases, answered by the compiled library. Each answer is stated here, and the
+//! The standard's cases, answered by the compiled library. Each answer stands here, and the
 //! reimplementation has to leave the same bytes in and around every buffer that is lent.
 
 mod stored;
@@ -11,7 +11,7 @@ use stored::Stored;
 use support::lend;
 
 /// What judge answers: the report, or number and detail of the refusal.
-type Stated = Result<&'static [u8], (u32, u64)>;
+type Answer = Result<&'static [u8], (u32, u64)>;
 
 const SIXTEEN_OPEN: &[u8] = &[
     1, 1, 1, 1, 1, 1, 1, 1, 1, 1, 1, 1, 1, 1, 1, 1, // ATOMIC
@@ -22,7 +22,7 @@ const SIXTEEN_OPEN: &[u8] = &[
 const EVERY_NAME: &[u8] = &[1, 1, 1, 1, 1, 3, 1, 2, 1, 1, 4, 1, 1, 0, 0, 1, 0, 1, 0, 5];
 
 /// The files of `examples/cases/`, whose README says what each one shows.
-const STATED: [(&str, Stated); 46] = [
+const ANSWERS: [(&str, Answer); 46] = [
     // Cases.
     ("empty_file", Err((1, 0))),
     ("sixteen_open", Ok(SIXTEEN_OPEN)),
@@ -77,14 +77,13 @@ const STATED: [(&str, Stated); 46] = [
     ("every_name", Ok(EVERY_NAME)),
 ];
 
-fn each_stated(mut check: impl FnMut(&Stored, Stated)) {
-    for (name, stated) in STATED {
-        check(&stored::one(stored::CASES, name), stated);
+fn each_case(mut check: impl FnMut(&Stored, Answer)) {
+    for (name, answer) in ANSWERS {
+        check(&stored::one(stored::CASES, name), answer);
     }
 }
 
-fn refused(stated: (u32, u64)) -> Refusal {
-    let (number, detail) = stated;
+fn refused((number, detail): (u32, u64)) -> Refusal {
     Refusal { number, detail }
 }
 
@@ -104,20 +103,20 @@ fn judge(case: &Stored, length: usize) -> Result<Vec<u8>, Refusal> {
 }
 
 #[test]
-fn every_stored_case_is_stated() {
-    let mut stated: Vec<&str> = STATED.iter().map(|&(name, _)| name).collect();
-    stated.sort();
+fn every_stored_case_has_its_answer() {
+    let mut answered: Vec<&str> = ANSWERS.iter().map(|&(name, _)| name).collect();
+    answered.sort();
     let stored = stored::all(stored::CASES);
     let names: Vec<&str> = stored.iter().map(|case| case.name.as_str()).collect();
-    assert_eq!(names, stated);
+    assert_eq!(names, answered);
 }
 
 #[test]
-fn judge_answers_as_stated() {
-    each_stated(|case, stated| {
-        let wanted = stated.map(<[u8]>::to_vec).map_err(refused);
+fn judge_answers_so() {
+    each_case(|case, answer| {
+        let wanted = answer.map(<[u8]>::to_vec).map_err(refused);
         assert_eq!(judge(case, 40), wanted, "{}", case.name);
-        if let Ok(report) = stated {
+        if let Ok(report) = answer {
             assert_eq!(judge(case, report.len()), wanted, "{}", case.name);
             let short = judge(case, report.len() - 1);
             assert_eq!(short, Err(refused((16, report.len() as u64))));
@@ -136,9 +135,9 @@ mod run {
     type Threads = [Counts; MAX_THREADS];
 
     /// Moved, waiting and idle of a file's threads; of all others they are 0.
-    fn counts<const N: usize>(stated: [(u64, u64, u64); N]) -> Threads {
+    fn counts<const N: usize>(of_threads: [(u64, u64, u64); N]) -> Threads {
         let mut threads = [Counts::default(); MAX_THREADS];
-        for (counts, (moved, waiting, idle)) in threads.iter_mut().zip(stated) {
+        for (counts, (moved, waiting, idle)) in threads.iter_mut().zip(of_threads) {
             *counts = Counts {
                 moved,
                 waiting,
@@ -182,10 +181,10 @@ mod run {
         assert_eq!(counted, counts([]));
         assert_eq!(state[..5], [0, 0, 0, 5, 0]);
         assert_eq!(state[5..], [0; 34]);
-        each_stated(|case, stated| {
-            let answer = run(&case.name, &case.file, &[]);
-            let wanted = stated.map(|_| (counts([]), start_state(&case.file)));
-            assert_eq!(answer, wanted.map_err(refused), "{}", case.name);
+        each_case(|case, answer| {
+            let ran = run(&case.name, &case.file, &[]);
+            let wanted = answer.map(|_| (counts([]), start_state(&case.file)));
+            assert_eq!(ran, wanted.map_err(refused), "{}", case.name);
         });
     }
 
@@ -261,9 +260,9 @@ mod line {
 
     #[test]
     fn the_lines_are_the_stored_printouts() {
-        each_stated(|case, stated| {
-            if let Err(stated) = stated {
-                assert_eq!(line(case, 0), Err(refused(stated)), "{}", case.name);
+        each_case(|case, answer| {
+            if let Err(refusal) = answer {
+                assert_eq!(line(case, 0), Err(refused(refusal)), "{}", case.name);
                 return;
             }
             let lines = case.printout.split_inclusive(|&byte| byte == b'\n');

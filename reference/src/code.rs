@@ -1,7 +1,8 @@
 //! One thread's code: instructions and nesting are tested in one pass (refusals 7 and 8), in which
 //! a visitor sees every instruction.
 
-use crate::instruction::MAX_STATEMENT;
+use crate::atomicity::Atomicity::{self, A, B, L, R};
+use crate::instruction::NOT_STATED;
 use crate::nesting::{Broken, Closer, Ended, Nesting};
 use crate::op::{self, Form, Row, Word};
 use crate::refusal::Refusal;
@@ -23,10 +24,8 @@ pub(crate) trait Visitor {
     fn write(&mut self, place: usize, variable: u8);
     fn take(&mut self, place: usize, lock: u8);
     fn give(&mut self, place: usize, lock: u8);
-    /// IF, WHILE.
-    fn open(&mut self);
-    /// ATOMIC, with what it states.
-    fn open_block(&mut self, statement: u8);
+    /// IF, WHILE, ATOMIC, with the atomicity that is stated, if one is.
+    fn open(&mut self, stated: Option<Atomicity>);
     fn turn_to_else(&mut self);
     fn end_if(&mut self, place: usize, opener: usize);
     fn again(&mut self, place: usize, opener: usize);
@@ -42,8 +41,7 @@ impl Visitor for OnlyReading {
     fn write(&mut self, _: usize, _: u8) {}
     fn take(&mut self, _: usize, _: u8) {}
     fn give(&mut self, _: usize, _: u8) {}
-    fn open(&mut self) {}
-    fn open_block(&mut self, _: u8) {}
+    fn open(&mut self, _: Option<Atomicity>) {}
     fn turn_to_else(&mut self) {}
     fn end_if(&mut self, _: usize, _: usize) {}
     fn again(&mut self, _: usize, _: usize) {}
@@ -125,6 +123,19 @@ fn require(good: bool) -> Result<(), Fault> {
     }
 }
 
+/// What an ATOMIC with this field a states. No field states T.
+#[inline(always)]
+fn stated(field: u8) -> Result<Option<Atomicity>, Fault> {
+    match field {
+        NOT_STATED => Ok(None),
+        1 => Ok(Some(B)),
+        2 => Ok(Some(L)),
+        3 => Ok(Some(R)),
+        4 => Ok(Some(A)),
+        _ => Err(Fault::Instruction),
+    }
+}
+
 /// One pass over a thread's code. Its functions are inlined into the loop, where one jump by the
 /// instruction's form leads to all that is done with it.
 struct Pass<V> {
@@ -157,11 +168,11 @@ impl<V: Visitor> Pass<V> {
             Form::Write => self.write(place, b),
             Form::Take => self.take(place, a),
             Form::Give => self.give(place, a),
-            Form::If => self.open(Closer::Else, place, n),
+            Form::If => self.open(Closer::Else, place, n, None),
             Form::Else => self.turn_to_else(place, n),
-            Form::While => self.open(Closer::Again, place, n),
+            Form::While => self.open(Closer::Again, place, n, None),
             Form::Again => self.again(place, n),
-            Form::Atomic => self.open_block(place, a, n),
+            Form::Atomic => self.open(Closer::EndOfBlock, place, n, stated(a)?),
             Form::End => self.end(place),
         }
     }
@@ -206,17 +217,15 @@ impl<V: Visitor> Pass<V> {
     }
 
     #[inline(always)]
-    fn open(&mut self, closer: Closer, place: usize, n: u16) -> Result<(), Fault> {
+    fn open(
+        &mut self,
+        closer: Closer,
+        place: usize,
+        n: u16,
+        stated: Option<Atomicity>,
+    ) -> Result<(), Fault> {
         self.nesting.open(closer, place, n)?;
-        self.visitor.open();
-        Ok(())
-    }
-
-    #[inline(always)]
-    fn open_block(&mut self, place: usize, statement: u8, n: u16) -> Result<(), Fault> {
-        require(statement <= MAX_STATEMENT)?;
-        self.nesting.open(Closer::EndOfBlock, place, n)?;
-        self.visitor.open_block(statement);
+        self.visitor.open(stated);
         Ok(())
     }
 

@@ -17,7 +17,7 @@ pub use limits::{deep_file, largest_file, limit_file};
 pub use lists::{good_list, list, longest_list};
 pub use program::encode_file;
 pub use rng::Rng;
-pub use statement::{atomics, without_statements};
+pub use statement::{atomics, without_statements, AtomicSite};
 
 use program::{Source, Style};
 

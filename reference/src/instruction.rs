@@ -6,7 +6,7 @@ use crate::op::{self, Word};
 /// The number of registers of a thread, r0 to r7.
 pub const REGISTERS: usize = 8;
 
-/// What ATOMIC has for a statement if it makes none.
+/// The statement of an ATOMIC that states nothing.
 pub const NOT_STATED: u8 = 0;
 
 /// The greatest statement, A's report byte: T can't be stated.

@@ -6,7 +6,6 @@ use std::mem;
 use crate::access::{AccessRules, Rule};
 use crate::atomicity::Atomicity;
 use crate::code::{Code, Visitor};
-use crate::instruction::NOT_STATED;
 use crate::lock_set::LockSet;
 use crate::nesting::LEVELS;
 use crate::reader::MAX_INSTRUCTIONS;
@@ -40,8 +39,8 @@ struct Frame {
     held: LockSet,
     /// The then part's atomicity, from ELSE on.
     then_part: Atomicity,
-    /// What a block states of itself.
-    statement: u8,
+    /// What a block states of itself, if it does.
+    stated: Option<Atomicity>,
 }
 
 /// Judges a thread's code while it is read, with the lock set and the atomicity so far carried
@@ -68,7 +67,7 @@ impl<'j> Judging<'j> {
             before: Atomicity::B,
             held: LockSet::empty(),
             then_part: Atomicity::B,
-            statement: NOT_STATED,
+            stated: None,
         };
         Judging {
             rules,
@@ -114,19 +113,6 @@ impl<'j> Judging<'j> {
     #[inline]
     fn innermost(&mut self) -> &mut Frame {
         &mut self.frames[self.depth % LEVELS]
-    }
-
-    /// Opens a construct; only a block states something.
-    #[inline]
-    fn push(&mut self, statement: u8) {
-        self.depth += 1;
-        *self.innermost() = Frame {
-            before: self.so_far,
-            held: self.held,
-            then_part: Atomicity::B,
-            statement,
-        };
-        self.so_far = Atomicity::B;
     }
 
     /// Closes the innermost construct, whose atomicity is known now, and goes on with the
@@ -177,13 +163,15 @@ impl Visitor for Judging<'_> {
     }
 
     #[inline]
-    fn open(&mut self) {
-        self.push(NOT_STATED);
-    }
-
-    #[inline]
-    fn open_block(&mut self, statement: u8) {
-        self.push(statement);
+    fn open(&mut self, stated: Option<Atomicity>) {
+        self.depth += 1;
+        *self.innermost() = Frame {
+            before: self.so_far,
+            held: self.held,
+            then_part: Atomicity::B,
+            stated,
+        };
+        self.so_far = Atomicity::B;
     }
 
     /// The else part starts with the set at the IF; the then part's set is kept to compare.
@@ -208,13 +196,14 @@ impl Visitor for Judging<'_> {
         self.close(opener, self.so_far.closure());
     }
 
-    /// Of two offences the first is remembered: 13 comes before 18.
+    /// Of two offences the first is remembered: 13 comes before 18. A block that states nothing is
+    /// compared with itself, which costs less than to ask whether it states something.
     #[inline]
     fn end_block(&mut self, place: usize, opener: usize) {
-        let statement = self.innermost().statement;
-        let is_true = (statement == NOT_STATED) | (statement == self.so_far.report_byte());
-        self.require(self.so_far != Atomicity::T, Refusal::BLOCK_IS_T, place);
-        self.require(is_true, Refusal::FALSE_STATEMENT, place);
-        self.close(opener, self.so_far);
+        let whole = self.so_far;
+        let stated = self.innermost().stated.unwrap_or(whole);
+        self.require(whole != Atomicity::T, Refusal::BLOCK_IS_T, place);
+        self.require(stated == whole, Refusal::FALSE_STATEMENT, place);
+        self.close(opener, whole);
     }
 }

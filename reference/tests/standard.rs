@@ -637,7 +637,7 @@ fn a_wrong_page_fails() {
     assert!(unknown_kind, "a block of an unknown kind");
 }
 
-/// The page says of its file that has a WRITE more: without the statement it would be accepted.
+/// The page says of its file that has a WRITE more: if the block stated nothing it would be accepted.
 #[test]
 fn a_statement_alone_can_refuse_a_file() {
     let page = Page::read();
@@ -679,6 +679,26 @@ fn wrong_statements_on_the_page_fail() {
         let fails = fails_with(&page, "ATOMIC 6 A A\n", other, blocks);
         assert!(fails, "{other}");
     }
+}
+
+/// A line shows no letter but the stated one, which is the one worked out.
+#[test]
+fn a_line_that_shows_a_false_statement_has_no_form() {
+    let page = Page::read();
+    let file = named_file(&page, "stated");
+    let mut printouts = page.blocks("printout").into_iter();
+    let block = printouts.find(|block| block.name == "stated");
+    let printout = block.expect("its printout").lines.join("\n");
+    let fails = |shown: &str| {
+        let text = printout.replace("ATOMIC 6 A A", shown);
+        assert_ne!(text, printout);
+        let check = std::panic::AssertUnwindSafe(|| examples::line_forms(&page, &file, &text));
+        std::panic::catch_unwind(check).is_err()
+    };
+    for wrong in ["- A", "B A", "A -", "- -"] {
+        assert!(fails(&format!("ATOMIC 6 {wrong}")), "{wrong}");
+    }
+    assert!(!fails("ATOMIC 6 A"), "nothing stated");
 }
 
 /// Counts are compared thread by thread, and there are some for each thread of the file.

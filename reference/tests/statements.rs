@@ -6,17 +6,21 @@ mod common;
 #[path = "common/plain_judge.rs"]
 #[allow(dead_code)] // some of the rules are for another test
 mod plain_judge;
+#[path = "common/stated.rs"]
+mod stated;
 
-use std::collections::BTreeMap;
+use std::collections::{BTreeMap, BTreeSet};
 
 use common::{judge_in, run_in};
 use hogunlas_reference::atomicity::Atomicity;
-use hogunlas_reference::generate::{self, atomics, without_statements, Rng};
+use hogunlas_reference::generate::{self, atomics, without_statements, AtomicSite, Rng};
 use hogunlas_reference::instruction::{MAX_STATEMENT, NOT_STATED};
-use hogunlas_reference::op;
 use hogunlas_reference::reader::Program;
 use hogunlas_reference::{bench, state_length, Refusal};
 use plain_judge::{judged_with, RIGHT, WRONG_STATEMENTS};
+use stated::{
+    sound_file_with_statements, statement_count, statements_are_true, with_statements_shown,
+};
 
 const FILES: u64 = 20_000;
 
@@ -29,57 +33,28 @@ fn refused<T>(number: u32, at: usize) -> Result<T, Refusal> {
     common::refused(number, at as u64)
 }
 
-/// The number of a file's ATOMICs that state something.
-fn statement_count(file: &[u8]) -> usize {
-    let stated = |&at: &usize| file[at + 1] != NOT_STATED;
-    atomics(file).iter().filter(|at| stated(at)).count()
-}
-
 /// The offset of the END that an ATOMIC names.
-fn end_of(file: &[u8], atomic: usize) -> usize {
-    let distance = u16::from_be_bytes([file[atomic + 2], file[atomic + 3]]);
-    atomic + 4 * usize::from(distance)
+fn end_of(file: &[u8], atomic: AtomicSite) -> usize {
+    let at = atomic.offset;
+    let distance = u16::from_be_bytes([file[at + 2], file[at + 3]]);
+    at + 4 * usize::from(distance)
 }
 
-/// The offset of each ATOMIC of a sound file, and the report byte of its block.
-fn blocks(file: &[u8], report: &[u8]) -> Vec<(usize, u8)> {
-    let program = Program::read(file).expect("a sound file");
-    let mut rest = report.iter();
-    let mut bytes = Vec::new();
-    for thread in 0..program.thread_count() {
-        let words = program.words(thread).iter().zip(rest.by_ref());
-        let of_blocks = words.filter(|(word, _)| word[0] == op::ATOMIC);
-        bytes.extend(of_blocks.map(|(_, &byte)| byte));
-        rest.next(); // the whole code's
-    }
-    atomics(file).into_iter().zip(bytes).collect()
-}
-
-/// What an accepted file is answered if one of its ATOMICs gets another field a.
-fn with_field(
-    report: &[u8],
-    right: u8,
-    at: usize,
-    end: usize,
-    field: u8,
-) -> Result<Vec<u8>, Refusal> {
-    if field > MAX_STATEMENT {
-        refused(7, at)
-    } else if field == NOT_STATED || field == right {
-        Ok(report.to_vec())
-    } else {
-        refused(18, end)
-    }
-}
-
-/// Tries every field a of an ATOMIC of an accepted file, whose block has this report byte.
-fn try_every_field(file: &[u8], report: &[u8], at: usize, right: u8) {
+/// Tries every field a of an ATOMIC of an accepted file.
+fn try_every_field(file: &[u8], report: &[u8], atomic: AtomicSite) {
+    let right = report[atomic.report_index];
+    let end = end_of(file, atomic);
     let mut file = file.to_vec();
-    let end = end_of(&file, at);
     for field in 0..=255 {
-        file[at + 1] = field;
-        let wanted = with_field(report, right, at, end, field);
-        assert_eq!(judged(&file), wanted, "{field} at {at} of {file:02X?}");
+        file[atomic.field()] = field;
+        let wanted = if field > MAX_STATEMENT {
+            refused(7, atomic.offset)
+        } else if field == NOT_STATED || field == right {
+            Ok(report.to_vec())
+        } else {
+            refused(18, end)
+        };
+        assert_eq!(judged(&file), wanted, "{field}, {atomic:?} of {file:02X?}");
     }
 }
 
@@ -90,9 +65,9 @@ fn every_value_of_the_field_is_answered_as_it_must_be() {
     for seed in 0..400 {
         let file = generate::accepted_file(&mut Rng::new(seed));
         let report = judged(&file).expect("an accepted file");
-        for (at, right) in blocks(&file, &report) {
-            try_every_field(&file, &report, at, right);
-            *met.entry(right).or_default() += 1;
+        for atomic in atomics(&file) {
+            try_every_field(&file, &report, atomic);
+            *met.entry(report[atomic.report_index]).or_default() += 1;
         }
     }
     assert!(met.len() == 4 && met.values().all(|&n| n > 20), "{met:?}");
@@ -130,16 +105,42 @@ fn a_file_with_its_statements_taken_out_is_reported_on_and_runs_alike() {
     assert!(with_statements > FILES / 3, "{with_statements}");
 }
 
-/// The line of an instruction without field a and, if it states something, the letter.
-fn line_without_statement(line: &str) -> String {
-    let words: Vec<&str> = line.split(' ').collect();
-    match words[..] {
-        ["34", _, high, low, place, "ATOMIC", n, letter, whole] => {
-            assert_eq!(letter, whole, "{line}");
-            format!("34 00 {high} {low} {place} ATOMIC {n} {whole}")
+/// "In an accepted file every statement is true: field a of each ATOMIC is 0 or its report byte."
+#[test]
+fn every_statement_of_an_accepted_file_is_true() {
+    let (mut accepted, mut false_ones) = (0, 0);
+    for file in (0..FILES).filter_map(sound_file_with_statements) {
+        match judged(&file) {
+            Ok(report) => {
+                assert!(statements_are_true(&file, &report), "{file:02X?}");
+                accepted += 1;
+            }
+            Err(refusal) => false_ones += u32::from(refusal.number == Refusal::FALSE_STATEMENT),
         }
-        _ => line.to_string(),
     }
+    println!("accepted: {accepted}, refused by 18: {false_ones}");
+    assert!(accepted > 1_000 && false_ones > 1_000);
+}
+
+/// "A sound file that is not refused with 18 gets the same answer from judge without its statements,
+/// refusals included."
+#[test]
+fn a_sound_file_that_is_not_refused_with_18_is_judged_alike_without_statements() {
+    let mut met = BTreeMap::<u32, u32>::new();
+    for file in (0..FILES).filter_map(sound_file_with_statements) {
+        let without = without_statements(&file);
+        for length in [file.len() / 4 + 8, 0] {
+            let answer = judge_in(length, &file);
+            let number = answer.as_ref().err().map_or(0, |refusal| refusal.number);
+            *met.entry(number).or_default() += 1;
+            if number != Refusal::FALSE_STATEMENT {
+                assert_eq!(answer, judge_in(length, &without), "{file:02X?}");
+            }
+        }
+    }
+    println!("answers (0) and refusals met: {met:?}");
+    assert!(met.keys().copied().eq([0, 9, 10, 11, 12, 13, 16, 18]));
+    assert!(met.values().all(|&times| times >= 20), "{met:?}");
 }
 
 /// "An ATOMIC shows the letter that it states after the distance, and nothing for 0."
@@ -149,13 +150,10 @@ fn a_printout_shows_statements_and_is_else_the_same() {
     let mut shown = 0;
     for seed in 0..FILES / 4 {
         let file = generate::accepted_file(&mut Rng::new(seed));
-        let (with, without) = (printout(&file), printout(&without_statements(&file)));
-        let lines = with.lines().map(line_without_statement);
-        assert!(lines.eq(without.lines()), "seed {seed}");
-        let differ = with.lines().zip(without.lines());
-        let count = differ.filter(|(line, other)| line != other).count();
-        assert_eq!(count, statement_count(&file), "seed {seed}");
-        shown += count;
+        let without = printout(&without_statements(&file));
+        let wanted = with_statements_shown(&file, &without);
+        assert_eq!(printout(&file), wanted, "seed {seed}");
+        shown += statement_count(&file);
     }
     assert!(shown > 5_000, "{shown}");
 }
@@ -167,11 +165,11 @@ fn only_the_statement_tells_of_the_recalibration() {
     let before = include_bytes!("../../examples/calibration.bin");
     let after = include_bytes!("../../examples/recalibration.bin");
     assert!(after[3..].starts_with(&before[3..]), "a thread is added");
-    let first = |file: &[u8]| blocks(file, &judged(file).unwrap())[0];
-    let (at, report_byte) = first(before);
-    assert_eq!((before[at + 1], report_byte), (1, 1));
-    assert_eq!(judged(after), refused(18, end_of(after, at)));
-    assert_eq!(first(&without_statements(after)), (at, 4));
+    let block = atomics(before)[0];
+    let report_byte = |file: &[u8]| judged(file).map(|report| report[block.report_index]);
+    assert_eq!((before[block.field()], report_byte(before)), (1, Ok(1)));
+    assert_eq!(report_byte(after), refused(18, end_of(after, block)));
+    assert_eq!(report_byte(&without_statements(after)), Ok(4));
 }
 
 /// What can be so of a file with statements, by its answer.
@@ -199,23 +197,28 @@ fn no_statement(field: u8) -> String {
     }
 }
 
+fn letter(report_byte: u8) -> char {
+    char::from(Atomicity::letter(report_byte))
+}
+
 /// The blocks of an accepted file: what each is, whether it states it, and where it stands.
 fn true_statements(file: &[u8], report: &[u8]) -> Vec<String> {
     let all = atomics(file);
-    let of_block = |(at, report_byte): (usize, u8)| {
-        let letter = char::from(Atomicity::letter(report_byte));
-        let what = match file[at + 1] {
+    let of_block = |&atomic: &AtomicSite| {
+        let letter = letter(report[atomic.report_index]);
+        let what = match file[atomic.field()] {
             NOT_STATED => "not stated",
             _ => "stated",
         };
-        format!("{letter} {what}, {}", site(file, &all, at))
+        format!("{letter} {what}, {}", depth(file, &all, atomic))
     };
-    blocks(file, report).into_iter().map(of_block).collect()
+    all.iter().map(of_block).collect()
 }
 
 /// Whether an ATOMIC stands within another one's block.
-fn site(file: &[u8], all: &[usize], at: usize) -> &'static str {
-    let is_around = |&other: &usize| other < at && at < end_of(file, other);
+fn depth(file: &[u8], all: &[AtomicSite], atomic: AtomicSite) -> &'static str {
+    let at = atomic.offset;
+    let is_around = |other: &AtomicSite| other.offset < at && at < end_of(file, *other);
     if all.iter().any(is_around) {
         "inner"
     } else {
@@ -224,23 +227,21 @@ fn site(file: &[u8], all: &[usize], at: usize) -> &'static str {
 }
 
 /// The ATOMIC of the END at an offset, if it states something.
-fn stated_end(file: &[u8], end: usize) -> Option<usize> {
+fn stated_end(file: &[u8], end: usize) -> Option<AtomicSite> {
     let mut all = atomics(file).into_iter();
-    let at = all.find(|&at| end_of(file, at) == end).expect("a block");
-    (file[at + 1] != NOT_STATED).then_some(at)
+    let atomic = all.find(|&atomic| end_of(file, atomic) == end);
+    let atomic = atomic.expect("a block");
+    (file[atomic.field()] != NOT_STATED).then_some(atomic)
 }
 
 /// A false statement: where it stands, and how it is false.
 fn false_statement(file: &[u8], end: usize) -> Vec<String> {
-    let at = stated_end(file, end).expect("a statement");
-    let place = format!("false, {}", site(file, &atomics(file), at));
+    let atomic = stated_end(file, end).expect("a statement");
+    let place = format!("false, {}", depth(file, &atomics(file), atomic));
     let Ok(report) = judged(&without_statements(file)) else {
         return vec![place, "false, and refused without it".into()];
     };
-    let mut blocks = blocks(file, &report).into_iter();
-    let (_, right) = blocks.find(|&(other, _)| other == at).expect("the block");
-    let letters = [file[at + 1], right].map(Atomicity::letter);
-    let [stated, right] = letters.map(char::from);
+    let [stated, right] = [file[atomic.field()], report[atomic.report_index]].map(letter);
     vec![place, format!("{stated} stated for {right}")]
 }
 
@@ -265,10 +266,11 @@ fn statements_of_every_kind_are_met() {
 }
 
 /// `bindings/tests/differential/judge.rs` compares the library on these files: each wrong rule would
-/// show.
+/// show. No two of them are the same rule.
 #[test]
 fn wrong_rules_for_statements_give_other_answers() {
     let mut differences = WRONG_STATEMENTS.map(|rule| (rule, 0));
+    let mut apart = BTreeSet::new();
     for seed in 0..FILES {
         let file = generate::file(&mut Rng::new(seed));
         let Ok(program) = Program::read(&file) else {
@@ -276,12 +278,17 @@ fn wrong_rules_for_statements_give_other_answers() {
         };
         let right = judged_with(RIGHT, &program);
         assert_eq!(judged(&file), right, "seed {seed}");
-        for (rule, count) in &mut differences {
-            *count += u32::from(judged_with(*rule, &program) != right);
+        let answers = WRONG_STATEMENTS.map(|rule| judged_with(rule, &program));
+        for (index, answer) in answers.iter().enumerate() {
+            differences[index].1 += u32::from(*answer != right);
+            let differ = (0..index).filter(|&before| answers[before] != *answer);
+            apart.extend(differ.map(|before| (before, index)));
         }
     }
     for (rule, count) in differences {
         println!("{}: {count}", rule.name);
         assert!(count >= 50, "{}: {count}", rule.name);
     }
+    let rules = WRONG_STATEMENTS.len();
+    assert_eq!(apart.len(), rules * (rules - 1) / 2, "{apart:?}");
 }

@@ -1,10 +1,17 @@
-//! What blocks state, on accepted files: each field a is answered alike, and statements play no other
-//! part.
+//! What blocks state: each field a is answered alike on accepted files, true statements are accepted
+//! and no others, and statements play no other part.
+
+#[path = "../../../reference/tests/common/stated.rs"]
+mod stated;
 
 use hogunlas::{Counts, Refusal, LINE_BUFFER, MAX_REPORT, MAX_STATE, MAX_THREADS};
 use hogunlas_reference::generate::{self, atomics, without_statements, Rng};
 
 use crate::judge::compare;
+use crate::support::Tally;
+use stated::{
+    sound_file_with_statements, statement_count, statements_are_true, with_statements_shown,
+};
 
 const FILES: u64 = 20_000;
 
@@ -16,14 +23,14 @@ fn judge_agrees_on_every_statement_of_every_block() {
     let mut met = [0; FIELDS.len()];
     for seed in 0..FILES / 10 {
         let mut file = generate::accepted_file(&mut Rng::new(seed));
-        for at in atomics(&file) {
-            let stated = file[at + 1];
+        for at in atomics(&file).into_iter().map(|site| site.field()) {
+            let stated = file[at];
             for (field, met) in FIELDS.iter().zip(&mut met) {
-                file[at + 1] = *field;
+                file[at] = *field;
                 let accepted = compare(seed, &file, file.len() / 4 + 8).is_ok();
                 *met += u32::from(accepted);
             }
-            file[at + 1] = stated;
+            file[at] = stated;
         }
     }
     println!("accepted by field: {met:?}");
@@ -33,9 +40,15 @@ fn judge_agrees_on_every_statement_of_every_block() {
 }
 
 fn report(file: &[u8]) -> Result<Vec<u8>, Refusal> {
-    let mut report = [0; MAX_REPORT];
-    let length = hogunlas::judge(file, &mut report)?;
-    Ok(report[..length].to_vec())
+    report_in(MAX_REPORT, file)
+}
+
+/// The report, into a buffer of so many bytes.
+fn report_in(length: usize, file: &[u8]) -> Result<Vec<u8>, Refusal> {
+    let mut report = vec![0; length];
+    let used = hogunlas::judge(file, &mut report)?;
+    report.truncate(used);
+    Ok(report)
 }
 
 fn ran(file: &[u8], list: &[u8]) -> Result<([Counts; MAX_THREADS], [u8; MAX_STATE]), Refusal> {
@@ -82,22 +95,49 @@ fn a_file_with_its_statements_taken_out_is_reported_on_and_runs_alike() {
     assert!(with_statements > FILES / 3, "{with_statements}");
 }
 
-/// The lines are as many; those that differ are the ATOMICs that state something.
+/// "In an accepted file every statement is true: field a of each ATOMIC is 0 or its report byte."
+#[test]
+fn every_statement_of_an_accepted_file_is_true() {
+    let mut tally = Tally::default();
+    for file in (0..FILES).filter_map(sound_file_with_statements) {
+        let answer = report(&file);
+        tally.add(&answer);
+        if let Ok(report) = answer {
+            assert!(statements_are_true(&file, &report), "{file:02X?}");
+        }
+    }
+    tally.assert_met([0, 18]);
+}
+
+/// "A sound file that is not refused with 18 gets the same answer from judge without its statements,
+/// refusals included."
+#[test]
+fn a_sound_file_that_is_not_refused_with_18_is_judged_alike_without_statements() {
+    let mut tally = Tally::default();
+    for file in (0..FILES).filter_map(sound_file_with_statements) {
+        let without = without_statements(&file);
+        for length in [MAX_REPORT, 0] {
+            let answer = report_in(length, &file);
+            tally.add(&answer);
+            let is_false = |refusal: &Refusal| refusal.number == 18;
+            if !answer.as_ref().is_err_and(is_false) {
+                assert_eq!(answer, report_in(length, &without), "{file:02X?}");
+            }
+        }
+    }
+    tally.assert_met([0, 9, 10, 11, 12, 13, 16, 18]);
+}
+
+/// "An ATOMIC shows the letter that it states after the distance, and nothing for 0."
 #[test]
 fn a_printout_shows_statements_and_is_else_the_same() {
     let mut shown = 0;
     for seed in 0..FILES / 20 {
         let (file, _) = file_and_list(seed);
-        let (with, without) = (printout(&file), printout(&without_statements(&file)));
-        assert_eq!(with.lines().count(), without.lines().count(), "seed {seed}");
-        let pairs = with.lines().zip(without.lines());
-        let differing: Vec<(&str, &str)> = pairs.filter(|(line, other)| line != other).collect();
-        let stated = |at: &usize| file[at + 1] != 0;
-        let count = atomics(&file).iter().filter(|at| stated(at)).count();
-        assert_eq!(differing.len(), count, "seed {seed}");
-        let are_blocks = differing.iter().all(|(line, _)| line.contains(" ATOMIC "));
-        assert!(are_blocks, "seed {seed}");
-        shown += count;
+        let without = printout(&without_statements(&file));
+        let wanted = with_statements_shown(&file, &without);
+        assert_eq!(printout(&file), wanted, "seed {seed}");
+        shown += statement_count(&file);
     }
     assert!(shown > 500, "{shown}");
 }

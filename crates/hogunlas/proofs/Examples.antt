@@ -17,7 +17,7 @@ use lib.ListN.{replicate}
 use Rattle.machine.specs.Run.{run}
 use Rattle.machine.specs.State.{start}
 use Rattle.printout.specs.Text.{ascii}
-use Rattle.program.specs.Unstated.{isStatementAmong, isStatementIn, isStatement, clearedFrom, withoutStatements}
+use Rattle.program.specs.Unstated.{withoutStatements}
 use Rattle.hogunlas.specs.Calls.{benchOutput}
 use Rattle.hogunlas.specs.Cases.{numbers, refusal, judgeSays, file, guardedVariable, TAKE, GIVE, READ, ATOMIC, END, SET}
 use Rattle.hogunlas.proofs.Definitions.{definitions}
@@ -126,5 +126,5 @@ stated-five = refl
 -- "field a of every ATOMIC made 0", and no other byte: SET's register and number are 4 too
 pub statement-taken-out :
     withoutStatements (file guardedVariable (STATES 4 3 ++ SET 4 4 ++ READ ++ END)) ≡ file guardedVariable (ATOMIC 3 ++ SET 4 4 ++ READ ++ END)
-unfolding definitions isStatementAmong isStatementIn isStatement clearedFrom withoutStatements
+unfolding definitions
 statement-taken-out = refl

@@ -128,7 +128,7 @@ module _ (p : Program) where
       let (b, h, e) = still-typed d in (
         composition (atomicityOf p c s i) b,
         then-mono (atomicityOf p c s i) (atomicityOf (withWriter p) c s i) b a (atomicity-below c s i) h,
-        typed-plain f (legal-alike same-kind l) e,
+        typed-plain f (legal-alike (withWriter p) p same-kind l) e,
       )
   still-typed (typed-choice {x = x} {y = y} {z = z} d₁ d₂ d) =
       let (b₁, h₁, e₁) = still-typed d₁ in

@@ -2,7 +2,8 @@
 --     judged-legal    an access that judging lets pass is legal
 --     legal-judged    a legal access passes judging, at any offset
 --     legal-exactly   both
---     legal-alike     an access that is legal in a program is so in one with the same kinds of variables
+--     set-alike, legal-alike
+--                     programs with the same kinds of variables have the same lock discipline
 -- Assumes nothing.
 use Prim.Native.Nat.{ℕ}
 use mathlib.Core.Path.{_≡_, refl, ap, _∙_, subst}
@@ -75,14 +76,14 @@ module _ (p : Program) (c : ℕ) where
   legal-exactly x d s s′ = (judged-legal x d s, λ l. legal-judged l d)
 
 -- the discipline looks at the kinds of variables, and at nothing else of a program
-pub legal-alike : {p q : Program} {c : ℕ} {x : Access} {s s′ : LockSet} → ((v : ℕ) → kindAt q v ≡ kindAt p v) → Legal p c x s s′ → Legal q c x s s′
-legal-alike same legal-none = legal-none
-legal-alike same (legal-read-guarded {v = v} k h) = legal-read-guarded (same v ∙ k) h
-legal-alike same (legal-write-guarded {v = v} k h) = legal-write-guarded (same v ∙ k) h
-legal-alike same (legal-read-own {v = v} k) = legal-read-own (same v ∙ k)
-legal-alike same (legal-write-own {v = v} k) = legal-write-own (same v ∙ k)
-legal-alike same (legal-read-fixed {v = v} k) = legal-read-fixed (same v ∙ k)
-legal-alike same (legal-read-open {v = v} k) = legal-read-open (same v ∙ k)
-legal-alike same (legal-write-open {v = v} k) = legal-write-open (same v ∙ k)
-legal-alike same (legal-take h) = legal-take h
-legal-alike same (legal-give h) = legal-give h
+module _ (p q : Program) (same : (v : ℕ) → kindAt q v ≡ kindAt p v) where
+  pub set-alike : (c d : ℕ) (x : Access) (s : LockSet) → accessedSet q c d x s ≡ accessedSet p c d x s
+  unfolding accessedSet
+  set-alike c d none s = refl
+  set-alike c d (reads v) s = rw (same v)
+  set-alike c d (writes v a) s = rw (same v)
+  set-alike c d (takes k) s = refl
+  set-alike c d (gives k) s = refl
+
+  pub legal-alike : {c : ℕ} {x : Access} {s s′ : LockSet} → Legal p c x s s′ → Legal q c x s s′
+  legal-alike {c} {x} {s} l = judged-legal q c x 0 s (set-alike c 0 x s ∙ legal-judged p c l 0)

@@ -15,8 +15,9 @@
 --     Legal           the lock discipline of judging is that of the rules
 --     Rules, RulesProgram, RulesFile
 --                     judging code, a program and a file is deriving by the rules
+--     Statements      in an accepted file every statement is true
 --     Unstated        judging a program with its statements taken out
---     Earlier         what the earlier rule for open variables accepted is accepted
+--     Earlier         what the earlier rule for open variables accepted is accepted, of files without statements
 pub mod Definitions
 pub mod LockSets
 pub mod VariableKinds
@@ -34,5 +35,6 @@ pub mod Legal
 pub mod Rules
 pub mod RulesProgram
 pub mod RulesFile
+pub mod Statements
 pub mod Unstated
 pub mod Earlier

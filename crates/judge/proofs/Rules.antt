@@ -10,7 +10,7 @@
 use Prim.Native.Nat.{ℕ, _+_, _*_}
 use mathlib.Core.Path.{_≡_, refl, sym, ap, _∙_, subst}
 use mathlib.Core.Logic.{_≢_, _↔_}
-use mathlib.Core.Bool.{Bool, true, false, not, _||_}
+use mathlib.Core.Bool.{Bool, true, false, not, or-true}
 use mathlib.Core.List.{List}
 use lib.Dec.{eqb}
 use borrow.Author.Tests.{eqb-true, eq-eqb}
@@ -61,10 +61,6 @@ states-truly : {n : ℕ} {a : Atomicity} → States n a → statesTruly n a ≡ 
 unfolding statesTruly
 states-truly states-nothing = refl
 states-truly {a = a} states-it = rw (eq-eqb (reportByte a) (reportByte a) refl) (or-true (eqb (reportByte a) 0))
-  where
-    or-true : (x : Bool) → (x || true) ≡ true
-    or-true true = refl
-    or-true false = refl
 
 module _ (p : Program) (t : ℕ) where
   -- ---- from judging to a derivation

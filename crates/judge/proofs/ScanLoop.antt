@@ -1,16 +1,16 @@
 -- The loop of `walk_code`: what holds at its head, and how each effect carries that on. Assumes nothing.
---     Matches, matches-next          the open frames are of the parts that the open entries open; after an instruction
---     opens-shallow, closes-some     so there is room for an opener's frame, and a frame for a closer
+--     Matches, other-of, whole-of    the open frames are of the parts that the open entries open; so after a closer, by how its part ends
+--     Opener                         an effect that opens a part
+--     frames-pushed, frames-replaced the frames of the array after an opener and a closer
 --     carriedInArray                 what is carried, its frames in an array
 --     instructionsFrom, scanFrom, codeScan
 --                                    the instructions from an offset on, the scan from a place on, and the whole code's
 --     Scanning                       what holds at the loop's head
 --     scanning-start                 ... where the loop begins
---     scanning-next                  ... after an instruction, by what is carried on from it
---     refused-there                  a refusal of an instruction is one of the code
---     scanning-end                   the code's end
---     frames-pushed, frames-replaced, frames-left
---                                    the frames of the array after an opener and a closer
+--     scanning-next                  ... after an instruction, by what is carried on from it; one law for each effect
+--     opens-room, closes-some        there is room for an opener's frame, and a frame for a closer
+--     refused-here, refused-closer   a refusal of an instruction is one of the scan
+--     scanning-end, refused-scan     the code's end, and a refusal of the scan
 use Prim.Native.Nat.{ℕ, suc, _+_, _*_, _-_, _≤_, _<_}
 use mathlib.Core.Path.{_≡_, refl, sym, _∙_, ap, ap₂, subst}
 use mathlib.Core.Bool.{Bool, true, false, not}

@@ -5,6 +5,7 @@
 --     Rules       the rules as derivations
 --     Acceptance  sound and accepted files
 --     Demand      accepted exactly when the rules derive it
+--     Statements  in an accepted file every statement is true
 -- Internal holds what only proofs and inner functions use.
 pub mod LockSet
 pub mod Discipline
@@ -12,4 +13,5 @@ pub mod Judging
 pub mod Rules
 pub mod Acceptance
 pub mod Demand
+pub mod Statements
 pub mod Internal

@@ -1,13 +1,13 @@
 -- No line is longer than 42 bytes (the standard, "Line and bench": "The longest line has 42 bytes"), so 48 are enough for each. Assumes
 -- nothing.
---     width, line-width                how many bytes some words take, each with a blank or the newline behind it
---     raw-width, letter-width, numbered-width, stated-width, kind-width
+--     width, width-append, line-width  how many bytes some words take, each with a blank or the newline behind it
+--     hex-width, raw-width, letter-width, stated-width, kind-width
 --                                      words
 --     instruction-width                the words of an instruction of four bytes
 --     Short, short-append, short-at    lines that are all short
---     lines-short                      the lines of a sound file
---     line-short, line-fits            each of them
---     longest                          one that has 42 bytes
+--     head-short, variable-short, instruction-short, ..
+--                                      each kind of line
+--     lines-short, no-longer-line      the lines of a sound file
 use Prim.Native.Nat.{ℕ, zero, suc, _+_, _-_, _*_, _<_, _≤_}
 use Prim.Native.String.{String}
 use mathlib.Core.Path.{_≡_, refl, ap, _∙_}
@@ -19,13 +19,11 @@ use native.Mathlib.Omega.{arith}
 use borrow.Author.Tests.{ltb-true}
 use Rattle.program.proofs.Contents.{length-instructions, length-variables}
 use Rattle.program.proofs.Decode.{decode-holds}
-use Rattle.program.proofs.Sound.{sound-file}
-use Rattle.program.specs.Answer.{fine}
 use Rattle.program.specs.Choice.{choose}
 use Rattle.program.specs.Field.{byteAt, wordAt}
 use Rattle.program.specs.Instruction.{decode, decodeAt, decodedInstruction}
-use Rattle.program.specs.Layout.{instructionsAt, variablesAt, codesAt, programOf, reading}
-use Rattle.program.specs.Limits.{lineSize, longestLine, lockLimit, threadLimit, variableLimit, instructionLimit, recordsStart, recordOffset}
+use Rattle.program.specs.Layout.{instructionsAt, variablesAt, codesAt, programOf}
+use Rattle.program.specs.Limits.{longestLine, lockLimit, threadLimit, variableLimit, instructionLimit, recordsStart, recordOffset}
 use Rattle.program.specs.Variable.{recorded, recordAt, variableAt}
 use Rattle.program.specs.Variable as recordings
 use Rattle.program.specs.Internal.Sound.{SoundSections, SoundFile, countAt}
@@ -35,7 +33,6 @@ use Rattle.program.specs.declared.variable.Recorded.the-variants.{Valid, Invali
 use Rattle.printout.specs.Line.{raw, numbered, letter, headLine, kindWords, variableLine, variableLines, statedWords, instructionWords, instructionLine, codeLines, sectionLines, wholeLines, lines}
 use Rattle.printout.specs.Text.{ascii, hex, decimal, spaced, lineOf}
 use Rattle.printout.specs.Internal.Writing.{ended}
-use Rattle.printout.proofs.Definitions.{printing-definitions}
 use Rattle.printout.proofs.Digits.{decimal-length}
 use Rattle.printout.proofs.Stored.{lineOf-more}
 
@@ -215,7 +212,7 @@ module _ (s : List ℕ) (bytes : (i : ℕ) → byteAt s i < 256) where
         )
 
   -- the lines of a sound file, whatever the report
-  pub lines-short : (l : Layout) → SoundFile s l → (report : List ℕ) → Short (lines s (programOf s l) report)
+  lines-short : (l : Layout) → SoundFile s l → (report : List ℕ) → Short (lines s (programOf s l) report)
   unfolding lines programOf ascii
   lines-short l h report =
       let vs = variablesAt (l .locks) (l .threads) s (l .variables) recordsStart in
@@ -231,15 +228,6 @@ module _ (s : List ℕ) (bytes : (i : ℕ) → byteAt s i < 256) where
       (head-short 0 "version" (omega arith), (head-short 1 "locks" (omega arith), (head-short 2 "threads" (omega arith), (of-section, of-rest))))
 
 -- "The longest line has 42 bytes": no line of a sound file, whatever the report, is longer
-pub line-short : (s : List ℕ) (l : Layout) → ((i : ℕ) → byteAt s i < 256) → reading s ≡ fine l → (report : List ℕ) (i : ℕ)
+pub no-longer-line : (s : List ℕ) (l : Layout) → ((i : ℕ) → byteAt s i < 256) → SoundFile s l → (report : List ℕ) (i : ℕ)
     → length (getD (lines s (programOf s l) report) i []) ≤ longestLine
-line-short s l bytes sound report i = short-at (lines s (programOf s l) report) (lines-short s bytes l (sound-file s l sound) report) i
-
--- so each fits "a buffer of 48 bytes"
-pub line-fits : longestLine ≤ lineSize
-line-fits = omega arith
-
--- and this one has as many: variable 63, guarded by k15, initially 4,294,967,295
-pub longest : length (lineOf (hex 0 ∷ hex 15 ∷ flatMap hex (255 ∷ 255 ∷ 255 ∷ 255 ∷ []) ∷ numbered "v" 63 ∷ kindWords (Guarded 15) ++ decimal 4294967295 ∷ [])) ≡ longestLine
-unfolding printing-definitions
-longest = refl
+no-longer-line s l bytes sound report i = short-at (lines s (programOf s l) report) (lines-short s bytes l sound report) i

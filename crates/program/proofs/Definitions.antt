@@ -6,9 +6,10 @@ use Rattle.program.specs.Field.{present, byteField, pairField, section}
 use Rattle.program.specs.Instruction.{decode, decodeAt}
 use Rattle.program.specs.Layout.{instructionsAt, variablesAt, codesAt, codeOf, programOf, variableSection, codeSection, codeSections, fields, reading}
 use Rattle.program.specs.Nesting.{named, unnamed, opening, passing, atElse, atAgain, atEnd, nest, atCodeEnd, firstBroken}
+use Rattle.program.specs.Unstated.{isStatementAmong, isStatementIn, isStatement, clearedFrom, withoutStatements}
 use Rattle.program.specs.Variable.{recorded, recordAt, variableAt}
 use Rattle.program.specs.Writers.{hasWrite, writtenFrom, writtenByOther}
 
 unfoldable pub reading-definitions : Unit {0}
-unfolding firstBad present byteField pairField section recorded recordAt variableAt decode decodeAt formOf accessOf statementOf named unnamed opening passing atElse atAgain atEnd nest atCodeEnd firstBroken instructionsAt variablesAt codesAt codeOf programOf variableSection codeSection codeSections fields reading hasWrite writtenFrom writtenByOther size elseDistance structure structured
+unfolding firstBad present byteField pairField section recorded recordAt variableAt decode decodeAt formOf accessOf statementOf named unnamed opening passing atElse atAgain atEnd nest atCodeEnd firstBroken instructionsAt variablesAt codesAt codeOf programOf variableSection codeSection codeSections fields reading hasWrite writtenFrom writtenByOther size elseDistance structure structured isStatementAmong isStatementIn isStatement clearedFrom withoutStatements
 reading-definitions = tt

@@ -3,7 +3,7 @@
 --     bind-alike      two answers that agree, and two ways to go on that agree
 --     code-end, sections-end
 --                     where reading stands after code sections
---     section-alike, variables-alike, code-alike, sections-alike, threads-alike
+--     pair-alike, section-alike, record-alike, variables-alike, code-alike, sections-alike, threads-alike
 --                     each piece of two such files
 --     fields-alike, reading-alike
 --                     two such files are read alike
@@ -79,7 +79,7 @@ module _ (locks variables : ℕ) (s : List ℕ) where
 -- two files that agree below n, neither shorter: each piece that ends by then is read alike. No byte is missing, so the length of the
 -- file, the detail of that refusal, does not show
 module _ (s t : List ℕ) (n : ℕ) (long-s : n ≤ length s) (long-t : n ≤ length t) (same : (i : ℕ) → i < n → byteAt s i ≡ byteAt t i) where
-  pair-alike : (at : ℕ) → at + 2 ≤ n → pairAt s at ≡ pairAt t at
+  pub pair-alike : (at : ℕ) → at + 2 ≤ n → pairAt s at ≡ pairAt t at
   pair-alike at h = rw (same at (omega arith), same (at + 1) (omega arith))
 
   section-alike : (size limit : ℕ) (c : Cursor) → c .at + 2 + limit ≤ n → section size limit s c ≡ section size limit t c
@@ -94,7 +94,7 @@ module _ (s t : List ℕ) (n : ℕ) (long-s : n ≤ length s) (long-t : n ≤ le
       let few = leb-true m limit (and-eq-true-iff (eqb (m % size) 0) (leb m limit) .0 ok .1) in
       rw (le-leb (c .at + 2 + m) (length s) (omega arith), le-leb (c .at + 2 + m) (length t) (omega arith))))
 
-  record-alike : (locks threads at : ℕ) → at + 6 ≤ n → recordAt locks threads s at ≡ recordAt locks threads t at
+  pub record-alike : (locks threads at : ℕ) → at + 6 ≤ n → recordAt locks threads s at ≡ recordAt locks threads t at
   unfolding recordAt
   record-alike locks threads at h = rw (same at (omega arith), same (at + 1) (omega arith))
 

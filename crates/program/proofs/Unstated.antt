@@ -4,7 +4,8 @@
 --     form-unstated, access-unstated           ... its form and its access
 --     plain-unstated                           a plain instruction states nothing
 --     nested-unstated                          nesting stays
---     writes-unstated, structured-unstated     the structured code is that of before, its statements taken out
+--     size-unstated, writes-unstated, structured-unstated
+--                                              the structured code is that of before, its statements taken out
 --     written-unstated                         the threads that write a variable stay
 --     code-unstated                            a code of a program, by its number
 use Prim.Native.Nat.{ℕ, suc}
@@ -86,7 +87,7 @@ nested-unstated p (i ∷ is) es =
 
 -- ---- structured code
 
-size-unstated : (c : Code) → size (unstatedCode c) ≡ size c
+pub size-unstated : (c : Code) → size (unstatedCode c) ≡ size c
 unfolding unstatedCode size
 size-unstated done = refl
 size-unstated (plain i c) = rw (size-unstated c)

@@ -3,15 +3,18 @@
 --     length-cleared, byte-cleared     as long as the file; each byte of it
 --     among-other, among-at            which bytes of some instructions are statements
 --     in-before                        ... of some sections: none before the first one's code
---     lookup-keeps, decode-unstated    an instruction, decoded without its statement
---     Clears                           what a section's bytes become
+--     kept-unstated, lookup-keeps, atomic-decoded, decode-unstated
+--                                      an instruction, decoded without its statement
+--     instructions-unstated            instructions
+--     Clears                           what the bytes of sections become
 --     section-cleared, sections-cleared, codes-cleared
 --                                      code sections
---     file-cleared                     the whole file
+--     bare-sound, bare-program, file-cleared
+--                                      the whole file
 use Prim.Native.Nat.{ℕ, zero, suc, _+_, _*_, _/_, _<_, _≤_}
 use mathlib.Core.Path.{_≡_, refl, sym, _∙_, ap}
 use mathlib.Core.Logic.{_≢_}
-use mathlib.Core.Bool.{Bool, true, false, _&&_, _||_, and-eq-true-iff}
+use mathlib.Core.Bool.{Bool, true, false, _&&_, _||_, or-false, and-eq-true-iff}
 use mathlib.Core.List.{List, [], _∷_, map}
 use lib.Dec.{ltb, eqb}
 use lib.ListN.{length}
@@ -35,6 +38,7 @@ use Rattle.program.specs.declared.instruction.Instruction.the-variants.{
 use Rattle.program.specs.declared.layout.Layout.{Layout}
 use Rattle.program.proofs.Decode.{or-right}
 use Rattle.program.proofs.Differ.{differ}
+use Rattle.program.proofs.Prefix.{pair-alike, record-alike}
 use Rattle.program.proofs.ReadSound.{file-sound}
 use Rattle.program.proofs.Sound.{sound-file}
 use Rattle.program.proofs.Unstated.{nested-unstated}
@@ -65,10 +69,6 @@ unfolding withoutStatements
 byte-cleared s d = byte-from s 0 s d ∙ ap (λ (k : ℕ). choose (isStatement s k) 0 (byteAt s d)) (omega arith)
 
 -- ---- which bytes are statements
-
-or-false : (b : Bool) → (b || false) ≡ b
-or-false true = refl
-or-false false = refl
 
 module _ (s : List ℕ) where
   among-other : (n at d : ℕ) → ((k : ℕ) → k < n → d ≢ at + 4 * k + 1) → isStatementAmong s n at d ≡ false
@@ -154,7 +154,7 @@ atomic-decoded locks variables a b c = cases (ltb a statementLimit)
     cases true e = refl
     cases false e = differ cc
 
-pub decode-unstated : (locks variables op a b c : ℕ) → Instruction.isValid (decode locks variables op a b c) ≡ true
+decode-unstated : (locks variables op a b c : ℕ) → Instruction.isValid (decode locks variables op a b c) ≡ true
     → decode locks variables op (choose (eqb op 0x34) 0 a) b c ≡ Valid (unstated (decodedInstruction (decode locks variables op a b c)))
 unfolding decode keeps
 decode-unstated locks variables op a b c valid = cases (eqb op 0x34) refl
@@ -270,9 +270,12 @@ module _ (s : List ℕ) (l : Layout) (h : SoundFile s l) where
   front-same : (d : ℕ) → d < recordOffset (l .variables) → byteAt (withoutStatements s) d ≡ byteAt s d
   front-same d u = clears-file d ∙ rw (in-before s (l .threads) (recordOffset (l .variables)) d (omega arith))
 
+  -- both files are as long as that
+  long : recordOffset (l .variables) ≤ length (withoutStatements s)
+  long = omega (arith, length-cleared s, h .section)
+
   record-same : (at : ℕ) → at + 6 ≤ recordOffset (l .variables) → recordAt (l .locks) (l .threads) (withoutStatements s) at ≡ recordAt (l .locks) (l .threads) s at
-  unfolding recordAt
-  record-same at u = rw (front-same at (omega arith), front-same (at + 1) (omega arith))
+  record-same = record-alike (withoutStatements s) s (recordOffset (l .variables)) long (h .section) front-same (l .locks) (l .threads)
 
   variables-same : (n at : ℕ) → at + 6 * n ≤ recordOffset (l .variables)
       → variablesAt (l .locks) (l .threads) (withoutStatements s) n at ≡ variablesAt (l .locks) (l .threads) s n at
@@ -288,25 +291,24 @@ module _ (s : List ℕ) (l : Layout) (h : SoundFile s l) where
         variables-same n (at + 6) (omega arith),
       )
 
-  pub bare-sound : SoundFile (withoutStatements s) l
+  bare-sound : SoundFile (withoutStatements s) l
   bare-sound =
-      let pair : pairAt (withoutStatements s) 3 ≡ pairAt s 3 = rw (front-same 3 (omega arith), front-same 4 (omega arith)) in
       record {
         version = front-same 0 (omega arith) ∙ h .version;
         lock-count = h .lock-count ∙ sym (front-same 1 (omega arith));
         thread-count = h .thread-count ∙ sym (front-same 2 (omega arith));
-        variable-count = pair ∙ h .variable-count;
+        variable-count = pair-alike (withoutStatements s) s (recordOffset (l .variables)) long (h .section) front-same 3 (omega arith) ∙ h .variable-count;
         locks = h .locks;
         some-thread = h .some-thread;
         threads = h .threads;
         variables = h .variables;
-        section = omega (arith, length-cleared s, h .section);
+        section = long;
         records = λ i u. ap Variable.isValid (record-same (recordOffset i) (omega arith)) ∙ h .records i u;
         sections = sections-cleared s (withoutStatements s) (length-cleared s) (l .locks) (l .variables) (l .threads) (recordOffset (l .variables)) (l .instructions)
             (λ d _. clears-file d) (h .sections);
       }
 
-  pub bare-program : programOf (withoutStatements s) l ≡ unstatedProgram (programOf s l)
+  bare-program : programOf (withoutStatements s) l ≡ unstatedProgram (programOf s l)
   unfolding programOf unstatedProgram
   bare-program =
       rw (

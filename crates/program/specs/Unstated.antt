@@ -1,5 +1,5 @@
--- A file with its statements taken out (the standard, "What is promised": "A file with its statements taken out, field a of every ATOMIC
--- made 0"). No call asks for it: it is there to say that a statement changes no report and no run.
+-- A sound file with its statements taken out (the standard, "What is promised": "A file with its statements taken out, field a of every
+-- ATOMIC made 0"). No call asks for it: it is there to say that a statement changes no report and no run.
 use Prim.Native.Nat.{ℕ, zero, suc, _+_, _*_, _/_}
 use mathlib.Core.Bool.{Bool, false, _&&_, _||_}
 use mathlib.Core.List.{List, [], _∷_}

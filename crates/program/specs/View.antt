@@ -22,7 +22,8 @@ pub data Form : Type 0 where
   Atomic : (n : ℕ) → Form
   End : Form
 
--- an instruction that is neither works on its thread's registers alone; an ATOMIC with distance n states a of its block
+-- an instruction that is neither works on its thread's registers alone. An ATOMIC has a view of its own, with its distance n and what it
+-- states, a: no other form is `Atomic`
 pub data View : Type 0 where
   own : View
   shares : Access → View

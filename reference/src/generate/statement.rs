@@ -16,16 +16,20 @@ use crate::reader::{Program, VARIABLE_BYTES};
 /// anything.
 pub(super) fn state_blocks(rng: &mut Rng, source: &mut Source, style: Style) {
     let percent = rng.pick(&[0, 50, 100]).unwrap_or(0);
-    for (thread, place, report_byte) in blocks(source) {
+    for (site, report_byte) in blocks(source) {
         let stated = match style {
             Style::Careless => anything(rng),
             Style::Disciplined | Style::Careful => statement_of(rng, report_byte),
         };
-        if let Atomic { statement, .. } = &mut source.code[thread][place] {
-            if rng.chance(percent) {
-                *statement = stated;
-            }
+        if rng.chance(percent) {
+            state(source, site, stated);
         }
+    }
+}
+
+fn state(source: &mut Source, site: AtomicSite, stated: u8) {
+    if let Atomic { statement, .. } = &mut source.code[site.thread][site.place] {
+        *statement = stated;
     }
 }
 
@@ -47,7 +51,7 @@ fn anything(rng: &mut Rng) -> u8 {
 /// Gives a block of a sound program another field a: mostly a false statement; or none, or a value
 /// that is no statement.
 pub(super) fn change_statement(rng: &mut Rng, source: &mut Source) {
-    let Some((thread, place, report_byte)) = some_block(rng, source) else {
+    let Some((site, report_byte)) = some_block(rng, source) else {
         return;
     };
     let false_ones: Vec<u8> = (1..=MAX_STATEMENT).filter(|&s| s != report_byte).collect();
@@ -58,54 +62,73 @@ pub(super) fn change_statement(rng: &mut Rng, source: &mut Source) {
         3 => rng.between(MAX_STATEMENT.into(), 255) as u8,
         _ => rng.pick(&false_ones).unwrap_or(NOT_STATED),
     };
-    if let Atomic { statement, .. } = &mut source.code[thread][place] {
-        *statement = changed;
-    }
+    state(source, site, changed);
 }
 
 /// Some ATOMIC of `blocks`. Most blocks are B or A: so that L and R are met too, it is first settled
 /// what the block is.
-fn some_block(rng: &mut Rng, source: &Source) -> Option<(usize, usize, u8)> {
+fn some_block(rng: &mut Rng, source: &Source) -> Option<(AtomicSite, u8)> {
     let mut blocks = blocks(source);
-    let kinds: BTreeSet<u8> = blocks.iter().map(|&(.., byte)| byte).collect();
+    let kinds: BTreeSet<u8> = blocks.iter().map(|&(_, byte)| byte).collect();
     let kind = rng.pick(&Vec::from_iter(kinds))?;
-    blocks.retain(|&(.., byte)| byte == kind);
+    blocks.retain(|&(_, byte)| byte == kind);
     rng.pick(&blocks)
 }
 
-/// Thread and place of each ATOMIC, and the report byte of its block.
-fn blocks(source: &Source) -> Vec<(usize, usize, u8)> {
-    let report = Report::of_sound(&source.encode());
-    let mut report_bytes = report.bytes().iter();
-    let mut blocks = Vec::new();
-    for (thread, code) in source.code.iter().enumerate() {
-        let words = code.iter().enumerate().zip(report_bytes.by_ref());
-        let in_code = words.filter(|((_, i), _)| matches!(i, Atomic { .. }));
-        blocks.extend(in_code.map(|((place, _), &byte)| (thread, place, byte)));
-        report_bytes.next(); // the whole code's
-    }
-    blocks
+/// The ATOMICs of a sound program, each with the report byte of its block.
+fn blocks(source: &Source) -> Vec<(AtomicSite, u8)> {
+    let file = source.encode();
+    let report = Report::of_sound(&file);
+    let sites = atomics(&file).into_iter();
+    sites
+        .map(|site| (site, report.bytes()[site.report_index]))
+        .collect()
 }
 
-/// The offsets of a sound file's ATOMICs; behind each stands its statement.
-pub fn atomics(file: &[u8]) -> Vec<usize> {
-    let program = Program::read(file).unwrap_or_else(|refusal| panic!("not sound: {refusal:?}"));
-    let mut offset = 3 + 2 + program.variables().len() * VARIABLE_BYTES;
-    let mut atomics = Vec::new();
-    for thread in 0..program.thread_count() {
-        let words = program.words(thread).iter().enumerate();
-        let in_code = words.filter(|(_, word)| word[0] == op::ATOMIC);
-        atomics.extend(in_code.map(|(place, _)| offset + 2 + place * size_of::<Word>()));
-        offset += 2 + size_of_val(program.words(thread));
+/// Where an ATOMIC stands. What its block is plays no part.
+#[derive(Clone, Copy, Debug)]
+pub struct AtomicSite {
+    pub thread: usize,
+    pub place: usize,
+    /// Its offset in the file.
+    pub offset: usize,
+    /// Where the byte of its block stands in a report.
+    pub report_index: usize,
+}
+
+impl AtomicSite {
+    /// The offset of field a, the statement.
+    pub fn field(self) -> usize {
+        self.offset + 1
     }
-    atomics
+}
+
+/// The ATOMICs of a sound file, in order.
+pub fn atomics(file: &[u8]) -> Vec<AtomicSite> {
+    let program = Program::read(file).unwrap_or_else(|refusal| panic!("not sound: {refusal:?}"));
+    let mut section = 3 + 2 + program.variables().len() * VARIABLE_BYTES;
+    let mut reported = 0;
+    let mut sites = Vec::new();
+    for thread in 0..program.thread_count() {
+        let words = program.words(thread);
+        let places = (0..words.len()).filter(|&place| words[place][0] == op::ATOMIC);
+        sites.extend(places.map(|place| AtomicSite {
+            thread,
+            place,
+            offset: section + 2 + place * size_of::<Word>(),
+            report_index: reported + place,
+        }));
+        section += 2 + size_of_val(words);
+        reported += words.len() + 1;
+    }
+    sites
 }
 
 /// A sound file with its statements taken out: field a of every ATOMIC made 0.
 pub fn without_statements(file: &[u8]) -> Vec<u8> {
     let mut without = file.to_vec();
-    for atomic in atomics(file) {
-        without[atomic + 1] = NOT_STATED;
+    for site in atomics(file) {
+        without[site.field()] = NOT_STATED;
     }
     without
 }

@@ -375,11 +375,12 @@ fn form_of(page: &Page, line: &str) -> usize {
 }
 
 /// Whether a line has a form, of which `NAME` stands for one of the names of its row. A name may
-/// have words behind it, as `ATOMIC with a statement`.
+/// have words behind it, as `ATOMIC that states an atomicity`.
 fn has_form(line: &str, names: &str, form: &str) -> bool {
     let words: Vec<&str> = line.split(' ').collect();
     let forms: Vec<&str> = form.split(' ').collect();
     words.len() == forms.len()
+        && (!form.ends_with(" X X") || ends_in_one_letter_twice(&words))
         && words.iter().zip(forms).all(|(word, form)| match form {
             "HH" | "HHHH" | "HHHHHHHH" => {
                 let is_digit = |byte: u8| byte.is_ascii_digit() || (b'A'..=b'F').contains(&byte);
@@ -393,6 +394,12 @@ fn has_form(line: &str, names: &str, form: &str) -> bool {
                 .any(|name| name.split(' ').next() == Some(word)),
             fixed => *word == fixed,
         })
+}
+
+/// "Of two `X` the first is what the block states and the second what was worked out; in an accepted
+/// file they are the same": a letter, since 0 is not shown.
+fn ends_in_one_letter_twice(words: &[&str]) -> bool {
+    matches!(words, [.., stated, worked_out] if stated == worked_out && *stated != "-")
 }
 
 fn is_decimal(text: &str) -> bool {

@@ -25,7 +25,11 @@ enum Statements {
     AtOrAbove,
     AtTheAtomic,
     Before13,
-    /// Compared with what the code is up to the END.
+    /// Compared with what the sequence that the block stands in is up to the END.
+    UpToTheEnd,
+    /// Compared with what that sequence is from there on.
+    OfWhatFollows,
+    /// Compared with what the thread's code is.
     OfTheWhole,
     /// Not compared: what follows is composed with the statement.
     StandForTheBlock,
@@ -127,13 +131,15 @@ pub const TOO_LENIENT: [Rule; 7] = [
     },
 ];
 
+const NOT_COMPARED: Rule = Rule {
+    name: "statements are not compared",
+    statements: Statements::NotCompared,
+    ..RIGHT
+};
+
 /// Deal otherwise with what blocks state.
-pub const WRONG_STATEMENTS: [Rule; 7] = [
-    Rule {
-        name: "statements are not compared",
-        statements: Statements::NotCompared,
-        ..RIGHT
-    },
+pub const WRONG_STATEMENTS: [Rule; 9] = [
+    NOT_COMPARED,
     Rule {
         name: "a statement at or above the one worked out is true",
         statements: Statements::AtOrAbove,
@@ -147,6 +153,16 @@ pub const WRONG_STATEMENTS: [Rule; 7] = [
     Rule {
         name: "18 before 13",
         statements: Statements::Before13,
+        ..RIGHT
+    },
+    Rule {
+        name: "a statement is of the code up to the END",
+        statements: Statements::UpToTheEnd,
+        ..RIGHT
+    },
+    Rule {
+        name: "a statement is of what follows",
+        statements: Statements::OfWhatFollows,
         ..RIGHT
     },
     Rule {
@@ -209,6 +225,7 @@ fn is_kept_from(code: &[Instruction], place: usize) -> bool {
 }
 
 /// One thread's code, walked by the structure of its constructs.
+#[derive(Clone)]
 struct Walk<'p> {
     program: &'p Program<'p>,
     rule: Rule,
@@ -306,9 +323,23 @@ impl Walk<'_> {
         match self.rule.statements {
             Statements::NotCompared | Statements::StandForTheBlock => true,
             Statements::AtOrAbove => body.join(stated) == stated,
-            Statements::OfTheWhole => before.then(body) == stated,
+            Statements::UpToTheEnd => before.then(body) == stated,
+            Statements::OfWhatFollows => self.is_from(self.place + 1, &self.held, stated),
+            Statements::OfTheWhole => self.is_from(0, &BTreeSet::new(), stated),
             _ => body == stated,
         }
+    }
+
+    /// Whether the sequence from a place on, where these locks are held, is as stated. An offence in
+    /// it is left for the walk to find.
+    fn is_from(&self, place: usize, held: &BTreeSet<u8>, stated: Atomicity) -> bool {
+        let mut ahead = Walk {
+            rule: NOT_COMPARED,
+            place,
+            held: held.clone(),
+            ..self.clone()
+        };
+        ahead.sequence().map_or(true, |is| is == stated)
     }
 
     fn plain(&mut self, instruction: Instruction) -> Result<Atomicity, Refusal> {

@@ -1,5 +1,5 @@
 -- The rule for open variables in the standard's version 1.0, to say what version 1.1 changed ("Versions": "a READ of an open variable is B if
--- no other thread's code has a WRITE of it; in 1.0 it was A"). All else is as it is now.
+-- no other thread's code has a WRITE of it; in 1.0 it was A"). All else is as it is now, statements included, which 1.0 did not know.
 --     writesBelow   WRITEs of the variables below n
 --     withWriter    a program with a code more, which writes every variable
 --     judgeBefore   judging by the earlier rule: each code beside such a writer

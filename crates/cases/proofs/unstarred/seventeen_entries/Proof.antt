@@ -2,8 +2,8 @@
 use borrow.Author.Needs.{needs}
 use Prim.Native.Nat.{_≤_, _-_, _+_, _*_}
 use mathlib.Core.Path.{_≡_}
-use Rattle.cases.proofs.stated.seventeen_entries.Statement.{statement}
-use Rattle.cases.proofs.stated.seventeen_entries.Tie as tie
+use Rattle.cases.proofs.unstarred.seventeen_entries.Statement.{statement}
+use Rattle.cases.proofs.unstarred.seventeen_entries.Tie as tie
 
 abbrev Inv-loop : tie.InvT-loop
 Inv-loop code₀ place₀ n₀ code place n = (place ≤ 17) × (n + 2 * place ≡ 35)
