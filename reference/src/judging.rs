@@ -196,14 +196,13 @@ impl Visitor for Judging<'_> {
         self.close(opener, self.so_far.closure());
     }
 
-    /// Of two offences the first is remembered: 13 comes before 18. A block that states nothing is
-    /// compared with itself, which costs less than to ask whether it states something.
+    /// Of two offences the first is remembered: 13 comes before 18.
     #[inline]
     fn end_block(&mut self, place: usize, opener: usize) {
         let whole = self.so_far;
-        let stated = self.innermost().stated.unwrap_or(whole);
+        let is_true = self.innermost().stated.is_none_or(|stated| stated == whole);
         self.require(whole != Atomicity::T, Refusal::BLOCK_IS_T, place);
-        self.require(stated == whole, Refusal::FALSE_STATEMENT, place);
+        self.require(is_true, Refusal::FALSE_STATEMENT, place);
         self.close(opener, whole);
     }
 }

@@ -637,7 +637,8 @@ fn a_wrong_page_fails() {
     assert!(unknown_kind, "a block of an unknown kind");
 }
 
-/// The page says of its file that has a WRITE more: if the block stated nothing it would be accepted.
+/// The page says of its file that has a WRITE more: if its block stated nothing, it would be
+/// accepted.
 #[test]
 fn a_statement_alone_can_refuse_a_file() {
     let page = Page::read();

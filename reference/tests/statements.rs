@@ -122,8 +122,8 @@ fn every_statement_of_an_accepted_file_is_true() {
     assert!(accepted > 1_000 && false_ones > 1_000);
 }
 
-/// "A sound file that is not refused with 18 gets the same answer from judge without its statements,
-/// refusals included."
+/// "A sound file that is not refused with 18 gets the same answer from judge without its
+/// statements, refusals included."
 #[test]
 fn a_sound_file_that_is_not_refused_with_18_is_judged_alike_without_statements() {
     let mut met = BTreeMap::<u32, u32>::new();

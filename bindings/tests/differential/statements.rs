@@ -1,5 +1,5 @@
-//! What blocks state: each field a is answered alike on accepted files, true statements are accepted
-//! and no others, and statements play no other part.
+//! What blocks state: each field a of accepted files is answered alike, no false statement is
+//! accepted, and statements play no other part.
 
 #[path = "../../../reference/tests/common/stated.rs"]
 mod stated;
@@ -109,8 +109,8 @@ fn every_statement_of_an_accepted_file_is_true() {
     tally.assert_met([0, 18]);
 }
 
-/// "A sound file that is not refused with 18 gets the same answer from judge without its statements,
-/// refusals included."
+/// "A sound file that is not refused with 18 gets the same answer from judge without its
+/// statements, refusals included."
 #[test]
 fn a_sound_file_that_is_not_refused_with_18_is_judged_alike_without_statements() {
     let mut tally = Tally::default();

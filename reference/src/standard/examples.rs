@@ -396,8 +396,8 @@ fn has_form(line: &str, names: &str, form: &str) -> bool {
         })
 }
 
-/// "Of two `X` the first is what the block states and the second what was worked out; in an accepted
-/// file they are the same": a letter, since 0 is not shown.
+/// "Of two `X` the first is what the block states and the second what was worked out; in an
+/// accepted file they are the same": a letter, since 0 is not shown.
 fn ends_in_one_letter_twice(words: &[&str]) -> bool {
     matches!(words, [.., stated, worked_out] if stated == worked_out && *stated != "-")
 }

@@ -330,8 +330,8 @@ impl Walk<'_> {
         }
     }
 
-    /// Whether the sequence from a place on, where these locks are held, is as stated. An offence in
-    /// it is left for the walk to find.
+    /// Whether the sequence from a place on, where these locks are held, is as stated. An offence
+    /// in it is left for the walk to find.
     fn is_from(&self, place: usize, held: &BTreeSet<u8>, stated: Atomicity) -> bool {
         let mut ahead = Walk {
             rule: NOT_COMPARED,

@@ -17,7 +17,7 @@ pub fn statements_are_true(file: &[u8], report: &[u8]) -> bool {
     })
 }
 
-/// A sound file of any kind, if the seed makes one with statements. Those that the generator makes are
+/// A sound file of any kind, if the seed makes one with statements. Those of the generator are
 /// mostly true, so in half of the files some blocks state anything.
 pub fn sound_file_with_statements(seed: u64) -> Option<Vec<u8>> {
     let rng = &mut Rng::new(seed);
