@@ -19,7 +19,8 @@ use hogunlas_reference::reader::Program;
 use hogunlas_reference::{bench, state_length, Refusal};
 use plain_judge::{judged_with, RIGHT, WRONG_STATEMENTS};
 use stated::{
-    sound_file_with_statements, statement_count, statements_are_true, with_statements_shown,
+    accepted_file_and_list, sound_file_with_statements, statement_count, statements_are_true,
+    with_statements_shown,
 };
 
 const FILES: u64 = 20_000;
@@ -71,19 +72,6 @@ fn every_value_of_the_field_is_answered_as_it_must_be() {
         }
     }
     assert!(met.len() == 4 && met.values().all(|&n| n > 20), "{met:?}");
-}
-
-/// An accepted file of any kind, and a list of its threads.
-fn accepted_file_and_list(rng: &mut Rng) -> (Vec<u8>, Vec<u8>) {
-    let file = match rng.below(100) {
-        0 => generate::largest_file(rng),
-        1..=5 => generate::deep_file(rng, 16),
-        6..=40 => generate::small_accepted_file(rng),
-        _ => generate::accepted_file(rng),
-    };
-    let length = rng.between(0, 400);
-    let list = generate::good_list(rng, usize::from(file[2]), length);
-    (file, list)
 }
 
 /// "A file with its statements taken out, field a of every ATOMIC made 0, has the same report and

@@ -10,7 +10,8 @@ use hogunlas_reference::generate::{self, atomics, without_statements, Rng};
 use crate::judge::compare;
 use crate::support::Tally;
 use stated::{
-    sound_file_with_statements, statement_count, statements_are_true, with_statements_shown,
+    accepted_file_and_list, sound_file_with_statements, statement_count, statements_are_true,
+    with_statements_shown,
 };
 
 const FILES: u64 = 20_000;
@@ -67,25 +68,13 @@ fn printout(file: &[u8]) -> String {
     (0..).map_while(line).collect()
 }
 
-/// An accepted file, and a list of its threads.
-fn file_and_list(seed: u64) -> (Vec<u8>, Vec<u8>) {
-    let rng = &mut Rng::new(seed);
-    let file = match rng.below(3) {
-        0 => generate::small_accepted_file(rng),
-        _ => generate::accepted_file(rng),
-    };
-    let length = rng.between(0, 400);
-    let list = generate::good_list(rng, usize::from(file[2]), length);
-    (file, list)
-}
-
 /// "A file with its statements taken out, field a of every ATOMIC made 0, has the same report and
 /// runs alike, if it is accepted with them."
 #[test]
 fn a_file_with_its_statements_taken_out_is_reported_on_and_runs_alike() {
     let mut with_statements = 0;
     for seed in 0..FILES {
-        let (file, list) = file_and_list(seed);
+        let (file, list) = accepted_file_and_list(&mut Rng::new(seed));
         let without = without_statements(&file);
         assert!(report(&file).is_ok(), "seed {seed}");
         assert_eq!(report(&file), report(&without), "seed {seed}");
@@ -133,7 +122,7 @@ fn a_sound_file_that_is_not_refused_with_18_is_judged_alike_without_statements()
 fn a_printout_shows_statements_and_is_else_the_same() {
     let mut shown = 0;
     for seed in 0..FILES / 20 {
-        let (file, _) = file_and_list(seed);
+        let file = generate::accepted_file(&mut Rng::new(seed));
         let without = printout(&without_statements(&file));
         let wanted = with_statements_shown(&file, &without);
         assert_eq!(printout(&file), wanted, "seed {seed}");

@@ -17,6 +17,19 @@ pub fn statements_are_true(file: &[u8], report: &[u8]) -> bool {
     })
 }
 
+/// An accepted file of any kind, and a list of its threads.
+pub fn accepted_file_and_list(rng: &mut Rng) -> (Vec<u8>, Vec<u8>) {
+    let file = match rng.below(100) {
+        0 => generate::largest_file(rng),
+        1..=5 => generate::deep_file(rng, 16),
+        6..=40 => generate::small_accepted_file(rng),
+        _ => generate::accepted_file(rng),
+    };
+    let length = rng.between(0, 400);
+    let list = generate::good_list(rng, usize::from(file[2]), length);
+    (file, list)
+}
+
 /// A sound file of any kind, if the seed makes one with statements. Those of the generator are
 /// mostly true, so in half of the files some blocks state anything.
 pub fn sound_file_with_statements(seed: u64) -> Option<Vec<u8>> {
