@@ -1,7 +1,7 @@
 -- No line is longer than 42 bytes (the standard, "Line and bench": "The longest line has 42 bytes"), so 48 are enough for each. Assumes
 -- nothing.
 --     width, width-append, line-width  how many bytes some words take, each with a blank or the newline behind it
---     hex-width, raw-width, letter-width, stated-width, kind-width
+--     raw-width, letter-width, stated-width, kind-width
 --                                      words
 --     instruction-width                the words of an instruction of four bytes
 --     Short, short-append, short-at    lines that are all short
@@ -12,13 +12,14 @@ use Prim.Native.Nat.{ℕ, zero, suc, _+_, _-_, _*_, _<_, _≤_}
 use Prim.Native.String.{String}
 use mathlib.Core.Path.{_≡_, refl, ap, _∙_}
 use mathlib.Core.Bool.{Bool, true, false}
-use mathlib.Core.List.{List, [], _∷_, _++_, flatMap}
+use mathlib.Core.List.{List, [], _∷_, _++_}
 use lib.Dec.{ltb, eqb}
 use lib.ListN.{length, getD, take, drop, length-append, length-take}
 use native.Mathlib.Omega.{arith}
 use borrow.Author.Tests.{ltb-true}
 use Rattle.program.proofs.Contents.{length-instructions, length-variables}
 use Rattle.program.proofs.Decode.{decode-holds}
+use Rattle.program.proofs.Lists.{length-flatMap}
 use Rattle.program.specs.Choice.{choose}
 use Rattle.program.specs.Field.{byteAt, wordAt}
 use Rattle.program.specs.Instruction.{decode, decodeAt, decodedInstruction}
@@ -53,14 +54,9 @@ line-width w (v ∷ vs) =
     ap length (lineOf-more w v vs)
     ∙ omega (arith, length-append (ended w 32) (lineOf (v ∷ vs)), length-append w (32 ∷ []), line-width v vs)
 
-hex-width : (bs : List ℕ) → length (flatMap hex bs) ≡ 2 * length bs
-unfolding flatMap hex
-hex-width [] = refl
-hex-width (b ∷ bs) = omega (arith, hex-width bs)
-
 raw-width : (s : List ℕ) (at n : ℕ) → length (raw s at n) ≤ 2 * n
-unfolding raw
-raw-width s at n = omega (arith, hex-width (take n (drop at s)), length-take n (drop at s))
+unfolding raw hex
+raw-width s at n = omega (arith, length-flatMap hex 2 (take n (drop at s)) 0 (λ i l. refl), length-take n (drop at s))
 
 letter-width : (b : ℕ) → length (letter b) ≤ 1
 unfolding letter
