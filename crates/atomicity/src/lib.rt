@@ -1,11 +1,13 @@
 // The five atomicities of the standard, "Atomicities": how the steps of a piece of code
 // commute with the steps of other threads.
+#![tactic(auto)]
+
 ghost use Rattle.std.specs.Prelude.{◌≡◌, [], get_or};
 ghost use Rattle.atomicity.specs.declared.Atomicity.TheVariants.{Both};
 ghost use Rattle.atomicity.specs.Atomicity.{at_most, closure, composition, join, report_byte};
 ghost use Rattle.atomicity.specs.Internal.Column.{column};
 
-#[derive(Drop)]
+#[derive(Clone, Copy)]
 pub enum Atomicity {
     // B, both mover: its steps commute both ways.
     Both,

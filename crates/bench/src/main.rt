@@ -1,5 +1,7 @@
 // The program `bench` (the standard, "Line and bench"): reads a file from standard input, judges it once, and prints all lines of its
 // printout, or why it is refused. What it prints is what `output` ensures; no contract can speak of reading and writing themselves.
+#![tactic(auto)]
+
 mod output;
 
 use crate::output::output;

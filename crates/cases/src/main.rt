@@ -1,6 +1,8 @@
 // The standard's cases that have no star, executed through the public calls, then those of its mistakes that look reasonable which a call
 // can show, then cases of what a block states, then moves of a thread whose record is lent. Each prints a line; the file stdout beside
 // src/ holds what the standard says. (The starred cases are proved: crates/hogunlas/specs/Cases.antt.)
+#![tactic(auto)]
+
 mod code;
 mod mistakes;
 mod moves;

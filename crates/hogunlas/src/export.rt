@@ -11,7 +11,7 @@ use program::limits::THREAD_LIMIT;
 use program::refusal::{detail, number};
 
 #[repr(C)]
-#[derive(Drop)]
+#[derive(Clone, Copy)]
 pub struct JudgedNumbers {
     pub refusal: u32,
     pub detail: u64,
@@ -20,7 +20,7 @@ pub struct JudgedNumbers {
 
 // In standards 1.0 and 1.1 run had the name hogunlas_run, and its struct three counts: a program that was compiled for these does not link.
 #[repr(C)]
-#[derive(Drop)]
+#[derive(Clone, Copy)]
 pub struct RanNumbers {
     pub refusal: u32,
     pub detail: u64,
@@ -72,7 +72,7 @@ pub extern "C" fn hogunlas_run_by_thread(file: &[u8], list: &[u8], state: &mut [
 }
 
 #[repr(C)]
-#[derive(Drop)]
+#[derive(Clone, Copy)]
 pub struct PrintedNumbers {
     pub refusal: u32,
     pub detail: u64,

@@ -1,5 +1,7 @@
 // The public calls (the standard, "The calls"): judge, run and line. None has a `requires`: bad input is refused, and each contract equates
 // the result and the lent buffer afterwards with a definition of the whole call, refusals included (specs/Calls.antt).
+#![tactic(auto)]
+
 pub mod export;
 pub mod list;
 
@@ -26,28 +28,28 @@ use program::limits::{
 use program::refusal::Refusal;
 
 // What judge answers: the report's length, or the refusal.
-#[derive(Drop)]
+#[derive(Clone, Copy)]
 pub enum Judged {
     Report(usize),
     Refused(Refusal),
 }
 
 // How run ended: with its counts, or refused.
-#[derive(Drop)]
+#[derive(Clone, Copy)]
 pub enum RunEnd {
     Counted,
     Refused(Refusal),
 }
 
 // What run answers: how it ended, and the counts moved, waiting and idle of each thread, all 0 after a refusal.
-#[derive(Drop)]
+#[derive(Clone, Copy)]
 pub struct Ran {
     pub end: RunEnd,
     pub threads: [Counts; THREAD_LIMIT],
 }
 
 // What line answers: the line's length, or the refusal.
-#[derive(Drop)]
+#[derive(Clone, Copy)]
 pub enum Printed {
     Line(usize),
     Refused(Refusal),

@@ -17,7 +17,7 @@ use program::instruction::Instruction;
 use program::limits::{LOCK_LIMIT, VARIABLE_LIMIT};
 use program::refusal::Refusal;
 
-#[derive(Drop)]
+#[derive(Clone, Copy)]
 pub enum Effect {
     // It is B and leaves the lock set.
     Nothing,

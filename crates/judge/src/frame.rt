@@ -9,7 +9,7 @@ use atomicity::Atomicity;
 use program::refusal::Refusal;
 
 // Which part of which construct the walk is in.
-#[derive(Drop)]
+#[derive(Clone, Copy)]
 pub enum Part {
     // Of an IF: what stands before its ELSE.
     Then,
@@ -22,7 +22,7 @@ pub enum Part {
 }
 
 // A part with what its closer needs.
-#[derive(Drop)]
+#[derive(Clone, Copy)]
 pub struct Frame {
     pub part: Part,
     // Where the opener's byte stands in the report.
@@ -36,7 +36,7 @@ pub struct Frame {
 }
 
 // How a part ends.
-#[derive(Drop)]
+#[derive(Clone, Copy)]
 pub enum Closed {
     // An IF's then part: its other part comes.
     Other,

@@ -18,7 +18,7 @@ use program::refusal::Refusal;
 use program::sections::find_sections;
 
 // What judging a file answers.
-#[derive(Drop)]
+#[derive(Clone, Copy)]
 pub enum Judging {
     // An accepted file's counts, and its report's length.
     Done(Layout, usize),

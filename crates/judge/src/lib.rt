@@ -1,4 +1,6 @@
 // The lock discipline and the atomicities of a station program (the standard, "Lock discipline", "Atomicities").
+#![tactic(auto)]
+
 pub mod access_rule;
 pub mod effect;
 pub mod frame;

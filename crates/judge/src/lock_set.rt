@@ -5,7 +5,7 @@ ghost use Rattle.judge.specs.LockSet.{empty, holds, same, with_lock, without_loc
 
 use program::limits::LOCK_LIMIT;
 
-#[derive(Drop)]
+#[derive(Clone, Copy)]
 pub struct LockSet {
     pub bits: u16,
 }

@@ -44,7 +44,7 @@ fn code_end(d: usize, at: usize, locks: LockSet, sofar: Atomicity, report: &mut 
 }
 
 // A code of the file.
-#[derive(Drop)]
+#[derive(Clone, Copy)]
 pub struct Code {
     pub number: usize,
     // The file offset of its first instruction, and how many it has.

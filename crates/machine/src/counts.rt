@@ -9,7 +9,7 @@ use program::limits::{CODE_LIMIT, THREAD_LIMIT};
 
 // How many of a thread's entries moved, waited and were idle.
 #[repr(C)]
-#[derive(Drop)]
+#[derive(Clone, Copy)]
 pub struct Counts {
     pub moved: u64,
     pub waiting: u64,

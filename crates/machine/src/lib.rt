@@ -1,4 +1,6 @@
 // The step machine (the standard, "The step machine").
+#![tactic(auto)]
+
 pub mod counts;
 pub mod moves;
 pub mod prepare;

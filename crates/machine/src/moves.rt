@@ -10,7 +10,7 @@ use program::instruction::Instruction;
 use program::limits::REGISTER_COUNT;
 
 // All but Goes go to the next place.
-#[derive(Drop)]
+#[derive(Clone, Copy)]
 pub enum Move {
     // A value into a register.
     Sets(u8, u32),

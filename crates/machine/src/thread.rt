@@ -7,13 +7,13 @@ ghost use Rattle.machine.specs.Internal.Effect.{Doing, MovedBy};
 use crate::moves::Move;
 use program::limits::REGISTER_COUNT;
 
-#[derive(Drop)]
+#[derive(Clone, Copy)]
 pub struct Thread {
     pub place: usize,
     pub registers: [u32; REGISTER_COUNT],
 }
 
-#[derive(Drop)]
+#[derive(Clone, Copy)]
 pub enum Outcome {
     Moved,
     Waiting,

@@ -1,4 +1,6 @@
 // The printout (the standard, "Line and bench").
+#![tactic(auto)]
+
 pub mod line;
 pub mod print;
 pub mod text;

@@ -23,7 +23,7 @@ use program::sections::bytes_before;
 use program::variable::{initial_at, kind_at};
 
 // What a line after those of the variables shows.
-#[derive(Drop)]
+#[derive(Clone, Copy)]
 pub enum Item {
     // Thread t: its code section's length.
     Thread(usize),

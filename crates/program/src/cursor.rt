@@ -7,13 +7,13 @@ ghost use Rattle.program.specs.Internal.Answered.{field_answer};
 use crate::refusal::Refusal;
 
 // The offset of the next byte to read.
-#[derive(Drop)]
+#[derive(Clone, Copy)]
 pub struct Cursor {
     pub at: usize,
 }
 
 // What reading answers: a value and the cursor past it, or the refusal.
-#[derive(Drop)]
+#[derive(Clone, Copy)]
 pub enum Field {
     Value(usize, Cursor),
     Refused(Refusal),

@@ -1,5 +1,5 @@
 // Where a search for the first offence ends.
-#[derive(Drop)]
+#[derive(Clone, Copy)]
 pub enum Found {
     Nowhere,
     At(usize),

@@ -6,7 +6,7 @@ ghost use Rattle.program.specs.Limits.{instruction_size, lock_limit, variable_li
 ghost use Rattle.program.specs.Internal.Rows.{limits_of, nesting_rows, row_of, row_table};
 ghost use Rattle.program.specs.Internal.Seen.{RegistersGood};
 
-#[derive(Drop)]
+#[derive(Clone, Copy)]
 pub enum Instruction {
     Set(u8, u16),
     Copy(u8, u8),

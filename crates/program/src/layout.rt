@@ -21,7 +21,7 @@ use crate::variable::first_bad_record;
 use crate::walk::{Walked, walk};
 
 // The counts of a sound file, by which every section is found.
-#[derive(Drop)]
+#[derive(Clone, Copy)]
 pub struct Layout {
     pub locks: usize,
     pub threads: usize,
@@ -29,7 +29,7 @@ pub struct Layout {
     pub instructions: usize,
 }
 
-#[derive(Drop)]
+#[derive(Clone, Copy)]
 pub enum Reading {
     Sound(Layout),
     Refused(Refusal),

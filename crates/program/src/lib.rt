@@ -1,4 +1,6 @@
 // The station program as a file: its fields, variable records, instructions and nesting (the standard, "The file").
+#![tactic(auto)]
+
 pub mod cursor;
 pub mod found;
 pub mod instruction;

@@ -7,7 +7,7 @@ ghost use Rattle.program.specs.Internal.Change.{is_then, is_loop_of, is_last, ro
 use crate::limits::ENTRY_LIMIT;
 
 // The entries that openers open. Each names the place of its closer.
-#[derive(Drop)]
+#[derive(Clone, Copy)]
 pub enum Entry {
     // Of an IF: the place of its ELSE.
     Then(usize),
@@ -20,7 +20,7 @@ pub enum Entry {
 }
 
 // What a well nested opener or closer does to the open entries.
-#[derive(Drop)]
+#[derive(Clone, Copy)]
 pub enum Change {
     Push(Entry),
     Replace(Entry),
@@ -28,7 +28,7 @@ pub enum Change {
 }
 
 // Nesting is broken at an instruction, or it goes on.
-#[derive(Drop)]
+#[derive(Clone, Copy)]
 pub enum Turn {
     Broken,
     Goes(Change),

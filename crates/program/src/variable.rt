@@ -10,7 +10,7 @@ use crate::cursor::pair_at;
 use crate::found::Found;
 use crate::limits::VARIABLE_SIZE;
 
-#[derive(Drop)]
+#[derive(Clone, Copy)]
 pub enum Kind {
     // Guarded by the lock.
     Guarded(u8),
@@ -23,7 +23,7 @@ pub enum Kind {
 }
 
 // What the kind and g bytes of a record say.
-#[derive(Drop)]
+#[derive(Clone, Copy)]
 pub enum Recorded {
     Valid(Kind),
     Invalid,

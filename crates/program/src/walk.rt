@@ -15,7 +15,7 @@ use crate::limits::{ENTRY_LIMIT, INSTRUCTION_SIZE, VARIABLE_LIMIT};
 use crate::nesting::{Change, Entry, NOWHERE, Turn, distance, named, turn_at};
 
 // Where a walk ends.
-#[derive(Drop)]
+#[derive(Clone, Copy)]
 pub enum Walked {
     Nested,
     // An instruction that is not valid, at an offset.

@@ -142,7 +142,7 @@ module _ (M : Moves) (L : Movers M) where
       (k : List Move) × Serial M s k v × ((P : Block → Type 0) → All (λ z. P (block z)) l → P (block m))
       × ((R : Block → Block → Type 0) → Ordered M R l → Permuted M R (m ∷ l) k)
   sink h b o serial_nil = absurd (≢_via b before≢outside o)
-  sink {m} h b o (serial_cons {m = x} {c = d} {l} g p q) =
+  sink {s} {u = u} {m} h b o (serial_cons {s = s'} {u = u'} {v = v'} {m = x} {c = d} {l} g p q) =
       dite (ℕ_discrete (thread m) (thread x))
       (λ e.
       let i = ≢_via b before≢outside in
@@ -151,7 +151,7 @@ module _ (M : Moves) (L : Movers M) where
       (λ n.
       let (_, g', h') = right_mover h g n b in
       let (_, p', h'') = sink_rest h' ((others g n).0 ∙ b) n p in
-      let (k, q', f, r) = sink h'' ((rest_others p n).0 ∙ (others g n).0 ∙ b) o q in (
+      let (k, q', f, r) = sink {s = (sink_rest {t = thread x} {s = (right_mover h g n b).0} {u = u'} {m = m} (right_mover h g n b).2 ((others g n).0 ∙ b) n p).0} h'' ((rest_others p n).0 ∙ (others g n).0 ∙ b) o q in (
         x ∷ (d ++ k),
         serial_cons g' p' q',
         λ P a. f P (all_behind (x ∷ d) a),
