@@ -4,12 +4,7 @@ use mathlib.Core.Path.{refl, sym, subst}
 use native.Mathlib.Omega.{arith}
 use Rattle.program.specs.Limits.{report_limit}
 use Rattle.judge.proofs.CodeLoop.{Walking, walking_start, walking_located, report_inside_limit, walking_next, refused_code, walking_end}
-use Rattle.judge.proofs.judging.walk_codes.Goals.{After-shared_slice_known-2-1, At-loop-number, In-loop-number}
 use Rattle.judge.proofs.judging.walk_codes.Goals as goal
-
--- what holds at the loop's head
-here : (u : At-loop-number) → let a = u.args in let o = u.loop-number in Walking a.s.now a.l a.starts.now a.counts.now u.requires.1 a.report.now o.report o.number o.first
-here u = u.loop-number.invariant.0 u.requires.1
 
 pub loop-number-init : goal.loop-number-init
 loop-number-init c = (λ table. walking_start _ _ _ _ table _, refl, refl)
@@ -35,44 +30,43 @@ bounds-counts-number c = omega (arith, c.requires.1.sound.threads)
 -- `let verdict = walk_code(rows, s, l, c, &reads, &writes, &mut *report)`
 pub walk_code-verdict-requires : goal.walk_code-verdict-requires
 walk_code-verdict-requires c =
-    let start = ((goal.at.walk_code-verdict-requires c).After-shared_slice_known-2-1) in
-    let a = start.args in
+    let a = c.args in
     let o = c.loop-number in
     let more = c.loop-number-test.true in
-    let table = start.requires.1 in
-    (start.requires.0, walking_located a.s.now a.l a.starts.now a.counts.now table a.report.now o.report o.number o.first (here ((goal.at.walk_code-verdict-requires c).In-loop-number)) more, c.fill_rules.ensures, table.sound.locks, table.sound.variables, report_inside_limit a.s.now a.l a.starts.now a.counts.now table a.report.now o.report o.number o.first (here ((goal.at.walk_code-verdict-requires c).In-loop-number)) more, subst (λ (n : ℕ). report_limit ≤ n) (sym (here ((goal.at.walk_code-verdict-requires c).In-loop-number)).report_length) start.requires.2)
+    let table = c.requires.1 in
+    (c.requires.0, walking_located a.s.now a.l a.starts.now a.counts.now table a.report.now o.report o.number o.first (c.loop-number.invariant.0 c.requires.1) more, c.fill_rules.ensures, table.sound.locks, table.sound.variables, report_inside_limit a.s.now a.l a.starts.now a.counts.now table a.report.now o.report o.number o.first (c.loop-number.invariant.0 c.requires.1) more, subst (λ (n : ℕ). report_limit ≤ n) (sym (c.loop-number.invariant.0 c.requires.1).report_length) c.requires.2)
 
 pub returns-in-Refused : goal.returns-in-Refused
 returns-in-Refused c =
     let a = c.args in
     let o = c.loop-number in
-    refused_code a.s.now a.l a.starts.now a.counts.now c.requires.1 a.report.now o.report o.number o.first (here ((goal.at.returns-in-Refused c).In-loop-number)) c.loop-number-test.true _ (rw c.in-Refused.is at c.walk_code-verdict.ensures)
+    refused_code a.s.now a.l a.starts.now a.counts.now c.requires.1 a.report.now o.report o.number o.first (c.loop-number.invariant.0 c.requires.1) c.loop-number-test.true _ (rw c.in-Refused.is at c.walk_code-verdict.ensures)
 
 -- `number += 1`
 pub overflow_add-number : goal.overflow_add-number
 overflow_add-number c =
     let a = c.args in
     let o = c.loop-number in
-    omega (arith, report_inside_limit a.s.now a.l a.starts.now a.counts.now c.requires.1 a.report.now o.report o.number o.first (here ((goal.at.overflow_add-number c).In-loop-number)) c.loop-number-test.true, c.requires.1.sound.threads, c.loop-number-test.true)
+    omega (arith, report_inside_limit a.s.now a.l a.starts.now a.counts.now c.requires.1 a.report.now o.report o.number o.first (c.loop-number.invariant.0 c.requires.1) c.loop-number-test.true, c.requires.1.sound.threads, c.loop-number-test.true)
 
 -- `first += count + 1`
 pub overflow_add-first : goal.overflow_add-first
 overflow_add-first c =
     let a = c.args in
     let o = c.loop-number in
-    omega (arith, report_inside_limit a.s.now a.l a.starts.now a.counts.now c.requires.1 a.report.now o.report o.number o.first (here ((goal.at.overflow_add-first c).In-loop-number)) c.loop-number-test.true, c.requires.1.sound.threads, c.loop-number-test.true)
+    omega (arith, report_inside_limit a.s.now a.l a.starts.now a.counts.now c.requires.1 a.report.now o.report o.number o.first (c.loop-number.invariant.0 c.requires.1) c.loop-number-test.true, c.requires.1.sound.threads, c.loop-number-test.true)
 
 pub overflow_add-first-in-loop-number : goal.overflow_add-first-in-loop-number
 overflow_add-first-in-loop-number c =
     let a = c.args in
     let o = c.loop-number in
-    omega (arith, report_inside_limit a.s.now a.l a.starts.now a.counts.now c.requires.1 a.report.now o.report o.number o.first (here ((goal.at.overflow_add-first-in-loop-number c).In-loop-number)) c.loop-number-test.true, c.requires.1.sound.threads, c.loop-number-test.true)
+    omega (arith, report_inside_limit a.s.now a.l a.starts.now a.counts.now c.requires.1 a.report.now o.report o.number o.first (c.loop-number.invariant.0 c.requires.1) c.loop-number-test.true, c.requires.1.sound.threads, c.loop-number-test.true)
 
 pub loop-number-preserved : goal.loop-number-preserved
 loop-number-preserved c =
     let a = c.args in
     let o = c.loop-number in (
-      λ table. walking_next a.s.now a.l a.starts.now a.counts.now table a.report.now o.report o.number o.first (o.invariant.0 table) c.loop-number-test.true _ c.walk_code-verdict.auto.1.1.1.1.1.1.0 (rw c.in_default.is at c.walk_code-verdict.ensures),
+      λ table. walking_next a.s.now a.l a.starts.now a.counts.now table a.report.now o.report o.number o.first (o.invariant.0 table) c.loop-number-test.true _ c.walk_code-verdict.auto.report (rw c.in_default.is at c.walk_code-verdict.ensures),
       c.fill_rules.ensures.reads_length,
       c.fill_rules.ensures.writes_length,
     )
@@ -81,4 +75,4 @@ pub returns : goal.returns
 returns c =
     let a = c.args in
     let o = c.loop-number in
-    walking_end a.s.now a.l a.starts.now a.counts.now c.requires.1 a.report.now o.report o.number o.first (here ((goal.at.returns c).At-loop-number)) c.loop-number-test.false
+    walking_end a.s.now a.l a.starts.now a.counts.now c.requires.1 a.report.now o.report o.number o.first (c.loop-number.invariant.0 c.requires.1) c.loop-number-test.false

@@ -2,6 +2,7 @@
 use Prim.Native.Nat.{ℕ, ◌+◌, ◌-◌, ◌*◌, ◌<◌}
 use mathlib.Core.Path.{◌≡◌, sym, ◌∙◌, subst}
 use mathlib.Core.Bool.{true, false}
+use mathlib.Core.List.{List}
 use lib.ListN.{length, length-set}
 use native.Mathlib.Omega.{arith}
 use Rattle.program.specs.View.{access_of}
@@ -23,7 +24,7 @@ use Rattle.judge.specs.declared.frame.Frame.{Frame}
 use Rattle.judge.specs.declared.frame.Part.TheVariants.{Then}
 use Rattle.judge.proofs.Effects.{takes_from, gives_from}
 use Rattle.judge.proofs.ScanLoop.{Scanning, scanning_start, refused_here, scanning_nothing, scanning_single, scanning_takes, scanning_gives, opens, begins, opens_room, scanning_opens, closes_some, opener_bound, refused_closer, scanning_other, scanning_whole, scanning_end, refused_scan}
-use Rattle.judge.proofs.walk.walk_code.Goals.{After-effect_of, After-instruction_at, At-loop-p}
+use Rattle.judge.proofs.walk.walk_code.Goals.{After-effect_of}
 use Rattle.judge.proofs.walk.walk_code.Goals as goal
 
 -- what a read past the array of frames gives
@@ -31,20 +32,24 @@ abbrev outside : Frame
 outside = record { part = Then; opener = 0; locks = record { bits = 0 }; first = Both; before = Both }
 
 -- what holds at the loop's head, for the layout that was handed in
-here : (u : At-loop-p) → let a = u.args in let o = u.loop-p in Scanning a.s.now a.l a.c.number a.c.start a.c.count a.c.first a.report.now o.report o.frames o.depth o.locks o.sofar o.p
-here u = let start = u in u.loop-p.invariant start.args.l start.requires.1 start.requires.2 (omega (arith, start.requires.5, start.requires.6))
+here : (u : After-effect_of) → let a = u.args in let o = u.loop-p in Scanning a.s.now a.l a.c.number a.c.start a.c.count a.c.first a.report.now o.report o.frames o.depth o.locks o.sofar o.p
+here u = u.loop-p.invariant u.args.l u.requires.1 u.requires.2 (omega (arith, u.requires.5, u.requires.6))
+
+-- the access that a decoded instruction makes
+access_there : (s : List ℕ) (l : Layout) (at : ℕ) (i : Instruction) → i ≡ decoded_instruction (decode_at l.locks l.variables s at)
+    → AccessBelow l.locks l.variables (access_of i)
+access_there s l at i said =
+    subst (λ (i : Instruction). AccessBelow l.locks l.variables (access_of i)) (sym said) (instruction_access l.locks l.variables s at)
 
 -- the instruction at hand, and the access that it makes
-module _ (u : tie.After-instruction-at invariant-loop decreases-loop) (l : Layout) (located : Located u.before.before.before.before.before.before.before.before.before.before.before.args.s.now l u.before.before.before.before.before.before.before.before.before.before.before.args.c.start u.before.before.before.before.before.before.before.before.before.before.before.args.c.count u.before.before.before.before.before.before.before.before.before.before.before.args.c.number) where
-  said : u.instruction-at.result ≡ decoded_instruction (decode_at l.locks l.variables u.before.before.before.before.before.before.before.before.before.before.before.args.s.now (u.before.before.before.before.before.before.before.before.before.before.before.args.c.start + 4 * u.before.before.before.before.before.loop.p))
-  said = (u.instruction-at.ensures l.locks l.variables (located.valid u.before.before.before.before.before.loop.p u.before.before.before.if1.true)).0
+module _ (u : After-effect_of) (l : Layout) (located : Located u.args.s.now l u.args.c.start u.args.c.count u.args.c.number) where
+  said : u.instruction_at.result ≡ decoded_instruction (decode_at l.locks l.variables u.args.s.now (u.args.c.start + 4 * u.loop-p.p))
+  said = (u.instruction_at.ensures l.locks l.variables (located.valid u.loop-p.p u.loop-p-test.true)).0
 
-  below : AccessBelow l.locks l.variables (access_of u.instruction-at.result)
-  below =
-      subst (λ (i : Instruction). AccessBelow l.locks l.variables (access_of i)) (sym said)
-      (instruction_access l.locks l.variables u.before.before.before.before.before.before.before.before.before.before.before.args.s.now (u.before.before.before.before.before.before.before.before.before.before.before.args.c.start + 4 * u.before.before.before.before.before.loop.p))
+  below : AccessBelow l.locks l.variables (access_of u.instruction_at.result)
+  below = access_there u.args.s.now l (u.args.c.start + 4 * u.loop-p.p) _ said
 
-below_limits : (u : After-instruction_at) → AccessBelow lock_limit variable_limit (access_of u.instruction_at.result)
+below_limits : (u : After-effect_of) → AccessBelow lock_limit variable_limit (access_of u.instruction_at.result)
 below_limits u = access_wider u.requires.3 u.requires.4 (access_of u.instruction_at.result) (below u u.args.l u.requires.1)
 
 -- what it does
@@ -78,28 +83,34 @@ loop-p-init c =
 
 -- `let d = c.start + INSTRUCTION_SIZE * p`
 pub overflow_mul-d : goal.overflow_mul-d
-overflow_mul-d c = omega (arith, (here ((goal.at.overflow_mul-d c).At-loop-p)).report_length, (here ((goal.at.overflow_mul-d c).At-loop-p)).depth_bound, c.requires.5, c.requires.6, c.requires.1.inside, c.requires.1.short)
+overflow_mul-d c = omega (arith, (c.loop-p.invariant c.args.l c.requires.1 c.requires.2 (omega (arith, c.requires.5, c.requires.6))).report_length, (c.loop-p.invariant c.args.l c.requires.1 c.requires.2 (omega (arith, c.requires.5, c.requires.6))).depth_bound, c.requires.5, c.requires.6, c.requires.1.inside, c.requires.1.short)
 
 pub overflow_add-d : goal.overflow_add-d
-overflow_add-d c = omega (arith, (here ((goal.at.overflow_add-d c).At-loop-p)).report_length, (here ((goal.at.overflow_add-d c).At-loop-p)).depth_bound, c.requires.5, c.requires.6, c.requires.1.inside, c.requires.1.short)
+overflow_add-d c = omega (arith, (c.loop-p.invariant c.args.l c.requires.1 c.requires.2 (omega (arith, c.requires.5, c.requires.6))).report_length, (c.loop-p.invariant c.args.l c.requires.1 c.requires.2 (omega (arith, c.requires.5, c.requires.6))).depth_bound, c.requires.5, c.requires.6, c.requires.1.inside, c.requires.1.short)
 
 -- `let at = c.first + p`
 pub overflow_add-at : goal.overflow_add-at
-overflow_add-at c = omega (arith, (here ((goal.at.overflow_add-at c).At-loop-p)).report_length, (here ((goal.at.overflow_add-at c).At-loop-p)).depth_bound, c.requires.5, c.requires.6, c.requires.1.inside, c.requires.1.short)
+overflow_add-at c = omega (arith, (c.loop-p.invariant c.args.l c.requires.1 c.requires.2 (omega (arith, c.requires.5, c.requires.6))).report_length, (c.loop-p.invariant c.args.l c.requires.1 c.requires.2 (omega (arith, c.requires.5, c.requires.6))).depth_bound, c.requires.5, c.requires.6, c.requires.1.inside, c.requires.1.short)
 
 -- `p += 1`
 pub overflow_add-p : goal.overflow_add-p
-overflow_add-p c = omega (arith, (here ((goal.at.overflow_add-p c).At-loop-p)).report_length, (here ((goal.at.overflow_add-p c).At-loop-p)).depth_bound, c.requires.5, c.requires.6, c.requires.1.inside, c.requires.1.short)
+overflow_add-p c = omega (arith, (c.loop-p.invariant c.args.l c.requires.1 c.requires.2 (omega (arith, c.requires.5, c.requires.6))).report_length, (c.loop-p.invariant c.args.l c.requires.1 c.requires.2 (omega (arith, c.requires.5, c.requires.6))).depth_bound, c.requires.5, c.requires.6, c.requires.1.inside, c.requires.1.short)
 
 -- `match effect_of(instruction_at(rows, s, d), d, locks, reads, writes)`
 pub instruction_at-requires : goal.instruction_at-requires
 instruction_at-requires c = (c.requires.0, omega (arith, c.requires.1.inside))
 
 pub effect_of-requires : goal.effect_of-requires
-effect_of-requires c = (c.requires.2.reads_length, c.requires.2.writes_length, below_limits ((goal.at.effect_of-requires c).After-instruction_at))
+effect_of-requires c = (
+  c.requires.2.reads_length,
+  c.requires.2.writes_length,
+  access_wider c.requires.3 c.requires.4 (access_of c.instruction_at.result)
+      (access_there c.args.s.now c.args.l (c.args.c.start + 4 * c.loop-p.p) _
+      (c.instruction_at.ensures c.args.l.locks c.args.l.variables (c.requires.1.valid c.loop-p.p c.loop-p-test.true)).0),
+)
 
 pub bounds-report-at : goal.bounds-report-at
-bounds-report-at c = omega (arith, (here ((goal.at.bounds-report-at c).At-loop-p)).report_length, (here ((goal.at.bounds-report-at c).At-loop-p)).depth_bound, c.requires.5, c.requires.6, c.requires.1.inside, c.requires.1.short)
+bounds-report-at c = omega (arith, (c.loop-p.invariant c.args.l c.requires.1 c.requires.2 (omega (arith, c.requires.5, c.requires.6))).report_length, (c.loop-p.invariant c.args.l c.requires.1 c.requires.2 (omega (arith, c.requires.5, c.requires.6))).depth_bound, c.requires.5, c.requires.6, c.requires.1.inside, c.requires.1.short)
 
 pub loop-p-preserved-in-Nothing : goal.loop-p-preserved-in-Nothing
 loop-p-preserved-in-Nothing c =
@@ -109,7 +120,7 @@ loop-p-preserved-in-Nothing c =
     λ l located tables some. scanning_nothing a.s.now l a.c.number a.c.start a.c.count a.c.first a.report.now o.report o.frames o.depth o.locks o.sofar o.p (o.invariant l located tables some) u.loop-p-test.true u.instruction_at.result (said u l located) u.effect_of.result (effect_said u l located tables) c.in-Nothing.is
 
 pub bounds-report-at-in-Single : goal.bounds-report-at-in-Single
-bounds-report-at-in-Single c = omega (arith, (here ((goal.at.bounds-report-at-in-Single c).At-loop-p)).report_length, (here ((goal.at.bounds-report-at-in-Single c).At-loop-p)).depth_bound, c.requires.5, c.requires.6, c.requires.1.inside, c.requires.1.short)
+bounds-report-at-in-Single c = omega (arith, (c.loop-p.invariant c.args.l c.requires.1 c.requires.2 (omega (arith, c.requires.5, c.requires.6))).report_length, (c.loop-p.invariant c.args.l c.requires.1 c.requires.2 (omega (arith, c.requires.5, c.requires.6))).depth_bound, c.requires.5, c.requires.6, c.requires.1.inside, c.requires.1.short)
 
 pub loop-p-preserved-in-Single : goal.loop-p-preserved-in-Single
 loop-p-preserved-in-Single c =
@@ -120,7 +131,7 @@ loop-p-preserved-in-Single c =
 
 -- `report[at] = RIGHT`
 pub bounds-report-at-in-Takes : goal.bounds-report-at-in-Takes
-bounds-report-at-in-Takes c = omega (arith, (here ((goal.at.bounds-report-at-in-Takes c).At-loop-p)).report_length, (here ((goal.at.bounds-report-at-in-Takes c).At-loop-p)).depth_bound, c.requires.5, c.requires.6, c.requires.1.inside, c.requires.1.short)
+bounds-report-at-in-Takes c = omega (arith, (c.loop-p.invariant c.args.l c.requires.1 c.requires.2 (omega (arith, c.requires.5, c.requires.6))).report_length, (c.loop-p.invariant c.args.l c.requires.1 c.requires.2 (omega (arith, c.requires.5, c.requires.6))).depth_bound, c.requires.5, c.requires.6, c.requires.1.inside, c.requires.1.short)
 
 -- `locks = locks.with(k)`
 pub with-locks-requires : goal.with-locks-requires
@@ -135,7 +146,7 @@ loop-p-preserved-in-Takes c =
 
 -- `report[at] = LEFT`
 pub bounds-report-at-in-Gives : goal.bounds-report-at-in-Gives
-bounds-report-at-in-Gives c = omega (arith, (here ((goal.at.bounds-report-at-in-Gives c).At-loop-p)).report_length, (here ((goal.at.bounds-report-at-in-Gives c).At-loop-p)).depth_bound, c.requires.5, c.requires.6, c.requires.1.inside, c.requires.1.short)
+bounds-report-at-in-Gives c = omega (arith, (c.loop-p.invariant c.args.l c.requires.1 c.requires.2 (omega (arith, c.requires.5, c.requires.6))).report_length, (c.loop-p.invariant c.args.l c.requires.1 c.requires.2 (omega (arith, c.requires.5, c.requires.6))).depth_bound, c.requires.5, c.requires.6, c.requires.1.inside, c.requires.1.short)
 
 -- `locks = locks.without(k)`
 pub without-locks-requires : goal.without-locks-requires
@@ -150,7 +161,7 @@ loop-p-preserved-in-Gives c =
 
 -- `depth += 1`
 pub overflow_add-depth : goal.overflow_add-depth
-overflow_add-depth c = omega (arith, (here ((goal.at.overflow_add-depth c).At-loop-p)).depth_bound)
+overflow_add-depth c = omega (arith, (c.loop-p.invariant c.args.l c.requires.1 c.requires.2 (omega (arith, c.requires.5, c.requires.6))).depth_bound)
 
 pub offset_bounds-frames-depth : goal.offset_bounds-frames-depth
 offset_bounds-frames-depth c = let u = ((goal.at.offset_bounds-frames-depth c).After-effect_of) in let a = u.args in let o = u.loop-p in omega (arith, opens_room a.s.now a.l a.c.number a.c.start a.c.count a.c.first a.report.now o.report o.frames o.depth o.locks o.sofar o.p (here u) u.loop-p-test.true u.instruction_at.result (said u a.l u.requires.1) u.effect_of.result (effect_said u a.l u.requires.1 u.requires.2) _ (opens c.in-Opens.is))
@@ -167,7 +178,7 @@ loop-p-preserved-in-Opens c =
 
 -- `depth += 1`
 pub overflow_add-depth-in-Begins : goal.overflow_add-depth-in-Begins
-overflow_add-depth-in-Begins c = omega (arith, (here ((goal.at.overflow_add-depth-in-Begins c).At-loop-p)).depth_bound)
+overflow_add-depth-in-Begins c = omega (arith, (c.loop-p.invariant c.args.l c.requires.1 c.requires.2 (omega (arith, c.requires.5, c.requires.6))).depth_bound)
 
 pub offset_bounds-frames-depth-in-Begins : goal.offset_bounds-frames-depth-in-Begins
 offset_bounds-frames-depth-in-Begins c = let u = ((goal.at.offset_bounds-frames-depth-in-Begins c).After-effect_of) in let a = u.args in let o = u.loop-p in omega (arith, opens_room a.s.now a.l a.c.number a.c.start a.c.count a.c.first a.report.now o.report o.frames o.depth o.locks o.sofar o.p (here u) u.loop-p-test.true u.instruction_at.result (said u a.l u.requires.1) u.effect_of.result (effect_said u a.l u.requires.1 u.requires.2) _ (begins c.in-Begins.is))
@@ -183,20 +194,20 @@ loop-p-preserved-in-Begins c =
     λ l located tables some. rw c.opened_frame-in-Begins.ensures (scanning_opens a.s.now l a.c.number a.c.start a.c.count a.c.first a.report.now o.report o.frames o.depth o.locks o.sofar o.p (o.invariant l located tables some) u.loop-p-test.true u.instruction_at.result (said u l located) u.effect_of.result (effect_said u l located tables) _ (begins c.in-Begins.is) (omega (arith, u.requires.5, u.requires.6)))
 
 pub bounds-report-at-in-Closes : goal.bounds-report-at-in-Closes
-bounds-report-at-in-Closes c = omega (arith, (here ((goal.at.bounds-report-at-in-Closes c).At-loop-p)).report_length, (here ((goal.at.bounds-report-at-in-Closes c).At-loop-p)).depth_bound, c.requires.5, c.requires.6, c.requires.1.inside, c.requires.1.short)
+bounds-report-at-in-Closes c = omega (arith, (c.loop-p.invariant c.args.l c.requires.1 c.requires.2 (omega (arith, c.requires.5, c.requires.6))).report_length, (c.loop-p.invariant c.args.l c.requires.1 c.requires.2 (omega (arith, c.requires.5, c.requires.6))).depth_bound, c.requires.5, c.requires.6, c.requires.1.inside, c.requires.1.short)
 
 -- `let frame = frames[depth]`
 pub offset_bounds-frames-depth-in-Closes : goal.offset_bounds-frames-depth-in-Closes
-offset_bounds-frames-depth-in-Closes c = omega (arith, (here ((goal.at.offset_bounds-frames-depth-in-Closes c).At-loop-p)).report_length, (here ((goal.at.offset_bounds-frames-depth-in-Closes c).At-loop-p)).depth_bound, c.requires.5, c.requires.6, c.requires.1.inside, c.requires.1.short)
+offset_bounds-frames-depth-in-Closes c = omega (arith, (c.loop-p.invariant c.args.l c.requires.1 c.requires.2 (omega (arith, c.requires.5, c.requires.6))).report_length, (c.loop-p.invariant c.args.l c.requires.1 c.requires.2 (omega (arith, c.requires.5, c.requires.6))).depth_bound, c.requires.5, c.requires.6, c.requires.1.inside, c.requires.1.short)
 
 pub bounds-frames-depth-in-Closes : goal.bounds-frames-depth-in-Closes
-bounds-frames-depth-in-Closes c = omega (arith, (here ((goal.at.bounds-frames-depth-in-Closes c).At-loop-p)).report_length, (here ((goal.at.bounds-frames-depth-in-Closes c).At-loop-p)).depth_bound, c.requires.5, c.requires.6, c.requires.1.inside, c.requires.1.short)
+bounds-frames-depth-in-Closes c = omega (arith, (c.loop-p.invariant c.args.l c.requires.1 c.requires.2 (omega (arith, c.requires.5, c.requires.6))).report_length, (c.loop-p.invariant c.args.l c.requires.1 c.requires.2 (omega (arith, c.requires.5, c.requires.6))).depth_bound, c.requires.5, c.requires.6, c.requires.1.inside, c.requires.1.short)
 
 pub offset_bounds-frames-depth-in-Other : goal.offset_bounds-frames-depth-in-Other
-offset_bounds-frames-depth-in-Other c = omega (arith, (here ((goal.at.offset_bounds-frames-depth-in-Other c).At-loop-p)).depth_bound)
+offset_bounds-frames-depth-in-Other c = omega (arith, (c.loop-p.invariant c.args.l c.requires.1 c.requires.2 (omega (arith, c.requires.5, c.requires.6))).depth_bound)
 
 pub bounds-frames-depth-in-Other : goal.bounds-frames-depth-in-Other
-bounds-frames-depth-in-Other c = omega (arith, (here ((goal.at.bounds-frames-depth-in-Other c).At-loop-p)).depth_bound, (here ((goal.at.bounds-frames-depth-in-Other c).At-loop-p)).frames_length)
+bounds-frames-depth-in-Other c = omega (arith, (c.loop-p.invariant c.args.l c.requires.1 c.requires.2 (omega (arith, c.requires.5, c.requires.6))).depth_bound, (c.loop-p.invariant c.args.l c.requires.1 c.requires.2 (omega (arith, c.requires.5, c.requires.6))).frames_length)
 
 pub loop-p-preserved-in-Other : goal.loop-p-preserved-in-Other
 loop-p-preserved-in-Other c =
@@ -250,17 +261,17 @@ overflow_add-c c = omega (arith, c.requires.1.inside, c.requires.1.short)
 
 -- `c.first + c.count`
 pub overflow_add-c-2 : goal.overflow_add-c-2
-overflow_add-c-2 c = omega (arith, (here ((goal.at.overflow_add-c-2 c).At-loop-p)).report_length, (here ((goal.at.overflow_add-c-2 c).At-loop-p)).depth_bound, c.requires.5, c.requires.6, c.requires.1.inside, c.requires.1.short)
+overflow_add-c-2 c = omega (arith, (c.loop-p.invariant c.args.l c.requires.1 c.requires.2 (omega (arith, c.requires.5, c.requires.6))).report_length, (c.loop-p.invariant c.args.l c.requires.1 c.requires.2 (omega (arith, c.requires.5, c.requires.6))).depth_bound, c.requires.5, c.requires.6, c.requires.1.inside, c.requires.1.short)
 
 -- `code_end(`
 pub code_end-requires : goal.code_end-requires
 code_end-requires c =
     let a = c.args in
     let inside : a.c.first + a.c.count < length a.report.now = omega (arith, c.requires.5, c.requires.6) in
-    subst (λ (n : ℕ). a.c.first + a.c.count < n) (sym (here ((goal.at.code_end-requires c).At-loop-p)).report_length) inside
+    subst (λ (n : ℕ). a.c.first + a.c.count < n) (sym (c.loop-p.invariant c.args.l c.requires.1 c.requires.2 (omega (arith, c.requires.5, c.requires.6))).report_length) inside
 
 pub returns : goal.returns
 returns c =
     let a = c.args in
     let o = c.loop-p in
-    c.code_end.ensures (frames_of o.depth o.frames) ∙ scanning_end a.s.now a.l a.c.number a.c.start a.c.count a.c.first a.report.now o.report o.frames o.depth o.locks o.sofar o.p (here ((goal.at.returns c).At-loop-p)) c.loop-p-test.false
+    c.code_end.ensures (frames_of o.depth o.frames) ∙ scanning_end a.s.now a.l a.c.number a.c.start a.c.count a.c.first a.report.now o.report o.frames o.depth o.locks o.sofar o.p (c.loop-p.invariant c.args.l c.requires.1 c.requires.2 (omega (arith, c.requires.5, c.requires.6))) c.loop-p-test.false

@@ -10,8 +10,8 @@ use Rattle.judge.proofs.walk.walk_code.Given as goal
 
 abbrev pub invariant-loop-p : goal.invariant-loop-p
 invariant-loop-p l =
-    (l : Layout) → Located l.s l l.c.start l.c.count l.c.number → RuleTables l.s l l.c.number l.reads l.writes → 0 < length l.initial.report
-    → Scanning l.s l l.c.number l.c.start l.c.count l.c.first l.initial.report l.report l.frames l.depth l.locks l.sofar l.p
+    (k : Layout) → Located l.s k l.c.start l.c.count l.c.number → RuleTables l.s k l.c.number l.reads l.writes → 0 < length l.initial.report
+    → Scanning l.s k l.c.number l.c.start l.c.count l.c.first l.initial.report l.report l.frames l.depth l.locks l.sofar l.p
 
 abbrev pub decreases-loop-p : goal.decreases-loop-p
 decreases-loop-p l =
