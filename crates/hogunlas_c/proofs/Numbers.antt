@@ -6,13 +6,13 @@ use mathlib.Core.List.{List}
 use Rattle.machine.specs.declared.counts.Counts.{Counts}
 use Rattle.program.specs.Refusal.{number_of, detail_of}
 use Rattle.program.specs.declared.refusal.Refusal.{Refusal}
-use Rattle.hogunlas.specs.Numbers.{judged_numbers, printed_numbers, end_numbers}
+use Rattle.hogunlas_c.specs.Numbers.{judged_numbers, printed_numbers, end_numbers}
 use Rattle.hogunlas.specs.declared.Judged.TheVariants as judged
 use Rattle.hogunlas.specs.declared.RunEnd.TheVariants as ran
-use Rattle.hogunlas.specs.declared.export.JudgedNumbers.{JudgedNumbers}
+use Rattle.hogunlas_c.specs.declared.JudgedNumbers.{JudgedNumbers}
 use Rattle.hogunlas.specs.declared.Printed.TheVariants as printed
-use Rattle.hogunlas.specs.declared.export.PrintedNumbers.{PrintedNumbers}
-use Rattle.hogunlas.specs.declared.export.RanNumbers.{RanNumbers}
+use Rattle.hogunlas_c.specs.declared.PrintedNumbers.{PrintedNumbers}
+use Rattle.hogunlas_c.specs.declared.RanNumbers.{RanNumbers}
 
 module _ (n d : ℕ) (r : Refusal) (is_number : n ≡ number_of r) (is_detail : d ≡ detail_of r) where
   pub judged_refused : ◌≡◌ {A = JudgedNumbers} (record { refusal = n; detail = d; length = 0 }) (judged_numbers (judged.Refused r))

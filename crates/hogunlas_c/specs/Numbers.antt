@@ -8,11 +8,11 @@ use Rattle.hogunlas.specs.declared.Judged.TheVariants as judged
 use Rattle.hogunlas.specs.declared.Ran.{Ran}
 use Rattle.hogunlas.specs.declared.RunEnd.{RunEnd}
 use Rattle.hogunlas.specs.declared.RunEnd.TheVariants as ran
-use Rattle.hogunlas.specs.declared.export.JudgedNumbers.{JudgedNumbers}
-use Rattle.hogunlas.specs.declared.export.RanNumbers.{RanNumbers}
+use Rattle.hogunlas_c.specs.declared.JudgedNumbers.{JudgedNumbers}
+use Rattle.hogunlas_c.specs.declared.RanNumbers.{RanNumbers}
 use Rattle.hogunlas.specs.declared.Printed.{Printed}
 use Rattle.hogunlas.specs.declared.Printed.TheVariants as printed
-use Rattle.hogunlas.specs.declared.export.PrintedNumbers.{PrintedNumbers}
+use Rattle.hogunlas_c.specs.declared.PrintedNumbers.{PrintedNumbers}
 
 abbrev pub judged_numbers : Judged → JudgedNumbers
 judged_numbers (judged.Report n) = record { refusal = 0; detail = 0; length = n }

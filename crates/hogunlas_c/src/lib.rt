@@ -1,11 +1,14 @@
 // The calls for C and Rust (include/hogunlas.h): answers as structs of numbers, refusal 0 for none. A slice is a pointer and a length.
+// Each makes the public call of crates/hogunlas and states its clauses again.
+#![tactic(auto)]
+
 ghost use Rattle.std.specs.Prelude.{◌≡◌, length};
 ghost use Rattle.judge.specs.Demand.{Demand2};
 ghost use Rattle.soundness.specs.Demand.{Demand3};
 ghost use Rattle.hogunlas.specs.Calls.{judge_answer, judge_buffer, judged_of, line_answer, line_buffer, printed_of, ran_of, run_answer, run_buffer};
-ghost use Rattle.hogunlas.specs.Numbers.{judged_numbers, printed_numbers, ran_numbers};
+ghost use Rattle.hogunlas_c.specs.Numbers.{judged_numbers, printed_numbers, ran_numbers};
 
-use crate::{Judged, Printed, RunEnd, judge, line, run};
+use hogunlas::{Judged, Printed, RunEnd, judge, line, run};
 use machine::counts::Counts;
 use program::limits::THREAD_LIMIT;
 use program::refusal::{detail, number};
