@@ -1,6 +1,5 @@
 -- `find_sections` meets its contract: the sections from `at` on are those of the codes from `c` on, and those before are located.
 -- Assumes nothing.
-use Prim.Native.Nat.{◌-◌}
 use native.Mathlib.Omega.{arith}
 use Rattle.program.specs.Internal.Sound.{SoundSection}
 use Rattle.program.proofs.SectionTable.{filling_start, filling_section, filling_next, filling_end}
