@@ -4,15 +4,33 @@
 
 mod output;
 
-use crate::output::output;
-use libc::{STDIN_FILENO, STDOUT_FILENO};
-use program::limits::{BENCH_LIMIT, OUTPUT_LIMIT};
+ghost use Rattle.std.specs.Prelude.{◌≤◌, length, IfOk};
 
-fn main() {
+use crate::output::output;
+use program::limits::{BENCH_LIMIT, OUTPUT_LIMIT};
+use std::io;
+use std::io::Read;
+
+// Reads until the buffer is full or the input ends; answers how many bytes it put at the front of the buffer.
+fn read_full(input: &mut impl Read, buffer: &mut [u8]) -> io::Result<usize>
+    ensures { IfOk result (λ n. n ≤ length buffer.new) }
+{
+    let mut done = 0;
+    while done < buffer.len() {
+        let n = input.read(&mut buffer[done..])?;
+        if n == 0 {
+            break;
+        }
+        done += n;
+    }
+    Ok(done)
+}
+
+fn main(rt: HostRuntime) -> io::Result<()> {
     // "It reads at most 33,174 bytes; more can't alter the answer."
     let mut input = [0u8; BENCH_LIMIT];
-    let n = io::read_full(STDIN_FILENO, &mut input);
+    let n = read_full(&mut rt.stdin(), &mut input)?;
     let mut text = [0u8; OUTPUT_LIMIT];
     let m = output(&input[..n], &mut text);
-    io::write_all(STDOUT_FILENO, &text[..m]);
+    rt.write_all(&text[..m])
 }

@@ -2,6 +2,7 @@
 ghost use Rattle.std.specs.Prelude.{◌≤◌, length};
 
 use crate::show;
+use std::io;
 
 // The kinds of variable that are used.
 pub const GUARDED: u8 = 0;
@@ -45,18 +46,18 @@ pub fn stating_to(stated: u8, n: u8) -> [u8; 4] {
 }
 
 // Judges the file with this code and a variable of this kind.
-pub fn judge(name: &[u8], kind: u8, code: &[[u8; 4]])
+pub fn judge(rt: &impl Print, name: &[u8], kind: u8, code: &[[u8; 4]]) -> io::Result<()>
     requires { length code.now ≤ 34 }
 {
     let mut file = [0u8; 149];
     head(kind, &mut file);
     let size = write(code, &mut file);
-    judge_first(name, size, &file);
+    judge_first(rt, name, size, &file)
 }
 
 // Judges the file that the first bytes of an array are.
-fn judge_first(name: &[u8], size: usize, file: &[u8; 149]) {
-    show::judge(name, show::first(file, size));
+fn judge_first(rt: &impl Print, name: &[u8], size: usize, file: &[u8; 149]) -> io::Result<()> {
+    show::judge(rt, name, show::first(file, size))
 }
 
 // Version 1, one lock, one thread, one variable: its kind, g 0, initial value 5.

@@ -10,25 +10,27 @@ mod show;
 mod statements;
 mod unstarred;
 
-fn main() {
-    unstarred::empty_file();
-    unstarred::empty_list();
-    unstarred::own_counts();
-    unstarred::sixteen_entries();
-    unstarred::seventeenth_entry();
-    unstarred::read_before_take();
-    unstarred::repeated_outside_a_block();
-    unstarred::repeated_within_a_block();
-    mistakes::atomic_then_atomic();
-    mistakes::closure_of_atomic();
-    mistakes::left_joined_with_right();
-    mistakes::locks_of_the_then_part();
-    mistakes::writers_of_an_open_variable();
-    mistakes::one_writer();
-    statements::true_statements();
-    statements::false_statements();
-    statements::other_offences();
-    statements::shown();
-    moves::results();
-    moves::places();
+use std::io;
+
+fn main(rt: HostRuntime) -> io::Result<()> {
+    unstarred::empty_file(&rt)?;
+    unstarred::empty_list(&rt)?;
+    unstarred::own_counts(&rt)?;
+    unstarred::sixteen_entries(&rt)?;
+    unstarred::seventeenth_entry(&rt)?;
+    unstarred::read_before_take(&rt)?;
+    unstarred::repeated_outside_a_block(&rt)?;
+    unstarred::repeated_within_a_block(&rt)?;
+    mistakes::atomic_then_atomic(&rt)?;
+    mistakes::closure_of_atomic(&rt)?;
+    mistakes::left_joined_with_right(&rt)?;
+    mistakes::locks_of_the_then_part(&rt)?;
+    mistakes::writers_of_an_open_variable(&rt)?;
+    mistakes::one_writer(&rt)?;
+    statements::true_statements(&rt)?;
+    statements::false_statements(&rt)?;
+    statements::other_offences(&rt)?;
+    statements::shown(&rt)?;
+    moves::results(&rt)?;
+    moves::places(&rt)
 }

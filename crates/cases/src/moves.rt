@@ -9,6 +9,7 @@ use crate::show;
 use machine::moves::move_of;
 use machine::thread::{Thread, moved_thread};
 use program::instruction::Instruction;
+use std::io;
 
 // A thread at place 6, with 3 in r0 and 5 in r1.
 const STANDING: Thread = Thread {
@@ -17,7 +18,7 @@ const STANDING: Thread = Thread {
 };
 
 // The thread after an instruction, where a READ finds `value`.
-fn moved(name: &[u8], i: Instruction, value: u32, th: Thread)
+fn moved(rt: &impl Print, name: &[u8], i: Instruction, value: u32, th: Thread) -> io::Result<()>
     requires { FieldsGood lock_limit variable_limit i × (th.place ≤ largest_place) }
 {
     let r = th.registers;
@@ -25,22 +26,34 @@ fn moved(name: &[u8], i: Instruction, value: u32, th: Thread)
     let m = move_of(i, &one, 0, th.place);
     let after = moved_thread(th, m, value);
     let registers = after.registers;
-    show::thread(name, after.place, &registers);
+    show::thread(rt, name, after.place, &registers)
 }
 
 // A result goes into its register, and the thread to the next place: "SUB takes c from b", modulo 2^32.
-pub fn results() {
-    moved(b"SUB r2 r1 r0: ", Instruction::Sub(2, 1, 0), 0, STANDING);
-    moved(b"SUB r2 r0 r1: ", Instruction::Sub(2, 0, 1), 0, STANDING);
-    moved(b"READ r7 v0: ", Instruction::Read(7, 0), 9, STANDING);
+pub fn results(rt: &impl Print) -> io::Result<()> {
+    moved(
+        rt,
+        b"SUB r2 r1 r0: ",
+        Instruction::Sub(2, 1, 0),
+        0,
+        STANDING,
+    )?;
+    moved(
+        rt,
+        b"SUB r2 r0 r1: ",
+        Instruction::Sub(2, 0, 1),
+        0,
+        STANDING,
+    )?;
+    moved(rt, b"READ r7 v0: ", Instruction::Read(7, 0), 9, STANDING)
 }
 
 // "IF and WHILE go to the next place if the register is not 0, else one past the named place. ELSE goes to its END. AGAIN goes to its
 // WHILE. All others go to the next place."
-pub fn places() {
-    moved(b"IF r0 4: ", Instruction::If(0, 4), 0, STANDING);
-    moved(b"WHILE r2 4: ", Instruction::While(2, 4), 0, STANDING);
-    moved(b"ELSE 4: ", Instruction::Else(4), 0, STANDING);
-    moved(b"AGAIN 4: ", Instruction::Again(4), 0, STANDING);
-    moved(b"GIVE k0: ", Instruction::Give(0), 0, STANDING);
+pub fn places(rt: &impl Print) -> io::Result<()> {
+    moved(rt, b"IF r0 4: ", Instruction::If(0, 4), 0, STANDING)?;
+    moved(rt, b"WHILE r2 4: ", Instruction::While(2, 4), 0, STANDING)?;
+    moved(rt, b"ELSE 4: ", Instruction::Else(4), 0, STANDING)?;
+    moved(rt, b"AGAIN 4: ", Instruction::Again(4), 0, STANDING)?;
+    moved(rt, b"GIVE k0: ", Instruction::Give(0), 0, STANDING)
 }

@@ -3,59 +3,66 @@ use hogunlas::{Judged, Printed, RunEnd};
 use machine::counts::Counts;
 use program::limits::{LINE_SIZE, REPORT_LIMIT, THREAD_LIMIT};
 use program::refusal::{Refusal, detail, number};
+use std::io;
 
-pub fn judge(name: &[u8], file: &[u8]) {
-    text(name);
+pub fn judge(rt: &impl Print, name: &[u8], file: &[u8]) -> io::Result<()> {
+    text(rt, name)?;
     let mut report = [0u8; REPORT_LIMIT];
     match hogunlas::judge(file, &mut report) {
-        Judged::Refused(refusal) => refused(refusal),
+        Judged::Refused(refusal) => refused(rt, refusal),
         Judged::Report(n) => {
-            text(b"report");
-            bytes(first(&report, n));
-            text(b"\n");
+            text(rt, b"report")?;
+            bytes(rt, first(&report, n))?;
+            text(rt, b"\n")
         }
     }
 }
 
 // The counts of each thread, then the whole buffer that was lent.
-pub fn run(name: &[u8], file: &[u8], list: &[u8], state: &mut [u8]) {
-    text(name);
+pub fn run(
+    rt: &impl Print,
+    name: &[u8],
+    file: &[u8],
+    list: &[u8],
+    state: &mut [u8],
+) -> io::Result<()> {
+    text(rt, name)?;
     let ran = hogunlas::run(file, list, state);
     let end = ran.end;
     let threads = ran.threads;
     match end {
-        RunEnd::Refused(refusal) => refused(refusal),
+        RunEnd::Refused(refusal) => refused(rt, refusal),
         RunEnd::Counted => {
-            counts(threads);
-            text(b", buffer");
-            bytes(state);
-            text(b"\n");
+            counts(rt, threads)?;
+            text(rt, b", buffer")?;
+            bytes(rt, state)?;
+            text(rt, b"\n")
         }
     }
 }
 
-pub fn line(name: &[u8], file: &[u8], i: usize) {
-    text(name);
+pub fn line(rt: &impl Print, name: &[u8], file: &[u8], i: usize) -> io::Result<()> {
+    text(rt, name)?;
     let mut out = [0u8; LINE_SIZE];
     match hogunlas::line(file, i, &mut out) {
-        Printed::Refused(refusal) => refused(refusal),
-        Printed::Line(n) => text(first(&out, n)),
+        Printed::Refused(refusal) => refused(rt, refusal),
+        Printed::Line(n) => text(rt, first(&out, n)),
     }
 }
 
 // One report byte.
-pub fn byte(name: &[u8], of: u8) {
-    decimal(name, wide(of));
-    text(b"\n");
+pub fn byte(rt: &impl Print, name: &[u8], of: u8) -> io::Result<()> {
+    decimal(rt, name, wide(of))?;
+    text(rt, b"\n")
 }
 
 // A thread: its place, then its registers.
-pub fn thread(name: &[u8], place: usize, registers: &[u32]) {
-    text(name);
-    decimal(b"place ", place);
-    text(b", registers");
-    words(registers);
-    text(b"\n");
+pub fn thread(rt: &impl Print, name: &[u8], place: usize, registers: &[u32]) -> io::Result<()> {
+    text(rt, name)?;
+    decimal(rt, b"place ", place)?;
+    text(rt, b", registers")?;
+    words(rt, registers)?;
+    text(rt, b"\n")
 }
 
 // The first n bytes, or all if there are fewer.
@@ -66,60 +73,56 @@ pub fn first<'a>(of: &'a [u8], n: usize) -> &'a [u8] {
     &of[0..n]
 }
 
-fn refused(refusal: Refusal) {
-    decimal(b"refused ", number(refusal));
-    decimal(b" at ", detail(refusal));
-    text(b"\n");
+fn refused(rt: &impl Print, refusal: Refusal) -> io::Result<()> {
+    decimal(rt, b"refused ", number(refusal))?;
+    decimal(rt, b" at ", detail(refusal))?;
+    text(rt, b"\n")
 }
 
 // Moved, waiting and idle of each thread.
-fn counts(threads: [Counts; THREAD_LIMIT]) {
-    text(b"counts");
-    let mut t: usize = 0;
-    while t < THREAD_LIMIT {
-        let of = threads[t];
-        count(b" ", of.moved);
-        count(b"/", of.waiting);
-        count(b"/", of.idle);
-        t += 1;
+fn counts(rt: &impl Print, threads: [Counts; THREAD_LIMIT]) -> io::Result<()> {
+    text(rt, b"counts")?;
+    for of in &threads {
+        count(rt, b" ", of.moved)?;
+        count(rt, b"/", of.waiting)?;
+        count(rt, b"/", of.idle)?;
     }
+    Ok(())
 }
 
 // Each byte's value, a blank before it.
-fn bytes(of: &[u8]) {
-    let mut i = 0;
-    while i < of.len() {
-        decimal(b" ", wide(of[i]));
-        i += 1;
+fn bytes(rt: &impl Print, of: &[u8]) -> io::Result<()> {
+    for byte in of {
+        decimal(rt, b" ", wide(*byte))?;
     }
+    Ok(())
 }
 
 // Each register's value, a blank before it.
-fn words(of: &[u32]) {
-    let mut i = 0;
-    while i < of.len() {
-        word(of[i]);
-        i += 1;
+fn words(rt: &impl Print, of: &[u32]) -> io::Result<()> {
+    for value in of {
+        word(rt, *value)?;
     }
+    Ok(())
 }
 
-fn word(value: u32) {
-    decimal(b" ", value as usize);
+fn word(rt: &impl Print, value: u32) -> io::Result<()> {
+    decimal(rt, b" ", value as usize)
 }
 
 fn wide(byte: u8) -> usize {
     byte as usize
 }
 
-fn decimal(words: &[u8], n: usize) {
-    count(words, n as u64);
+fn decimal(rt: &impl Print, words: &[u8], n: usize) -> io::Result<()> {
+    count(rt, words, n as u64)
 }
 
-fn count(words: &[u8], n: u64) {
-    text(words);
-    io::print_decimal(1, n);
+fn count(rt: &impl Print, words: &[u8], n: u64) -> io::Result<()> {
+    text(rt, words)?;
+    rt.print(n)
 }
 
-fn text(words: &[u8]) {
-    io::write_all(1, words);
+fn text(rt: &impl Print, words: &[u8]) -> io::Result<()> {
+    rt.write_all(words)
 }

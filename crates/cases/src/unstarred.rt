@@ -1,34 +1,36 @@
 // The standard, "Cases": those without a star.
 use crate::code::{END, GIVE, GUARDED, READ, TAKE, again_to, atomic_to, while_to};
 use crate::{code, show};
+use std::io;
 
 // "Empty file, 1 at 0."
-pub fn empty_file() {
-    show::judge(b"empty file, judge: ", b"");
+pub fn empty_file(rt: &impl Print) -> io::Result<()> {
+    show::judge(rt, b"empty file, judge: ", b"")?;
     let mut state = [255u8; 1];
-    show::run(b"empty file, run: ", b"", b"", &mut state);
-    show::line(b"empty file, line: ", b"", 0);
+    show::run(rt, b"empty file, run: ", b"", b"", &mut state)?;
+    show::line(rt, b"empty file, line: ", b"", 0)
 }
 
 // "Empty list: the start state", here of the standard's example file. The buffer is a byte longer than the state.
-pub fn empty_list() {
+pub fn empty_list(rt: &impl Print) -> io::Result<()> {
     let file =
         b"\x01\x01\x01\x00\x06\x00\x00\x00\x00\x00\x05\x00\x0C\x20\x00\x00\x00\x10\x02\x00\x00\x21\x00\x00\x00";
     let mut state = [255u8; 40];
-    show::run(b"empty list: ", file, b"", &mut state);
+    show::run(rt, b"empty list: ", file, b"", &mut state)
 }
 
 // "Each entry counts for its own thread": two threads TAKE k0, GIVE k0, and one whose code is empty.
-pub fn own_counts() {
+pub fn own_counts(rt: &impl Print) -> io::Result<()> {
     let file =
         b"\x01\x01\x03\x00\x00\x00\x08\x20\x00\x00\x00\x21\x00\x00\x00\x00\x08\x20\x00\x00\x00\x21\x00\x00\x00\x00\x00";
     let mut state = [255u8; 104];
     show::run(
+        rt,
         b"own counts: ",
         file,
         b"\x00\x01\x02\x01\x02\x00\x01",
         &mut state,
-    );
+    )
 }
 
 // Seventeen WHILEs, each the body of the one before, and their AGAINs.
@@ -46,32 +48,32 @@ fn seventeen_entries() -> [[u8; 4]; 34] {
 }
 
 // "16 entries open pass": the body of the outermost of seventeen.
-pub fn sixteen_entries() {
+pub fn sixteen_entries(rt: &impl Print) -> io::Result<()> {
     let code = seventeen_entries();
-    code::judge(b"16 entries open: ", GUARDED, &code[1..33]);
+    code::judge(rt, b"16 entries open: ", GUARDED, &code[1..33])
 }
 
 // "the 17th gives 8", at its offset.
-pub fn seventeenth_entry() {
+pub fn seventeenth_entry(rt: &impl Print) -> io::Result<()> {
     let code = seventeen_entries();
-    code::judge(b"17 entries open: ", GUARDED, &code);
+    code::judge(rt, b"17 entries open: ", GUARDED, &code)
 }
 
 // In the example file "READ put before TAKE: 9 at 13."
-pub fn read_before_take() {
-    code::judge(b"READ before TAKE: ", GUARDED, &[READ, TAKE, GIVE]);
+pub fn read_before_take(rt: &impl Print) -> io::Result<()> {
+    code::judge(rt, b"READ before TAKE: ", GUARDED, &[READ, TAKE, GIVE])
 }
 
 // "A WHILE around TAKE, GIVE: T outside a block", in the report and in the printout's last line.
-pub fn repeated_outside_a_block() {
+pub fn repeated_outside_a_block(rt: &impl Print) -> io::Result<()> {
     let file =
         b"\x01\x01\x01\x00\x00\x00\x10\x32\x00\x00\x03\x20\x00\x00\x00\x21\x00\x00\x00\x33\x00\x00\x03";
-    show::judge(b"WHILE around TAKE, GIVE: ", file);
-    show::line(b"WHILE around TAKE, GIVE, last line: ", file, 9);
+    show::judge(rt, b"WHILE around TAKE, GIVE: ", file)?;
+    show::line(rt, b"WHILE around TAKE, GIVE, last line: ", file, 9)
 }
 
 // "13 within one", at the block's END.
-pub fn repeated_within_a_block() {
+pub fn repeated_within_a_block(rt: &impl Print) -> io::Result<()> {
     let code = [atomic_to(5), while_to(3), TAKE, GIVE, again_to(3), END];
-    code::judge(b"WHILE around TAKE, GIVE in a block: ", GUARDED, &code);
+    code::judge(rt, b"WHILE around TAKE, GIVE in a block: ", GUARDED, &code)
 }

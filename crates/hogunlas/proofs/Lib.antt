@@ -7,7 +7,6 @@
 --     Counted       what the counts of run sum to
 --     Unstated      a file with its statements taken out is judged and run alike
 --     Longest       the longest line
---     Numbers       a refusal as C gets it
 --     Prefix        bench prints the same for the first 33,174 bytes as for the whole file
 --     Cases         the standard's starred cases
 --     Examples      worked examples, computed
@@ -19,7 +18,6 @@ pub mod Printing
 pub mod Counted
 pub mod Unstated
 pub mod Longest
-pub mod Numbers
 pub mod Prefix
 pub mod Cases
 pub mod Examples

@@ -2,7 +2,6 @@
 // the result and the lent buffer afterwards with a definition of the whole call, refusals included (specs/Calls.antt).
 #![tactic(auto)]
 
-pub mod export;
 pub mod list;
 
 ghost use Rattle.std.specs.Prelude.{◌≡◌, length};
@@ -73,7 +72,7 @@ pub fn judge(file: &[u8], out: &mut [u8]) -> Judged
             if out.len() < n {
                 return Judged::Refused(Refusal::ShortBuffer(n));
             }
-            bytes::copy(&report[..n], out);
+            out[..n].copy_from_slice(&report[..n]);
             Judged::Report(n)
         }
     }

@@ -33,6 +33,7 @@ use Rattle.machine.specs.declared.thread.Thread.{Thread}
 use Rattle.machine.proofs.Ends.{AtEnd, never_idle}
 use Rattle.machine.proofs.Kept.{not_at_end, step_idle}
 use Rattle.machine.proofs.Sums.{entries_head, entries_tail, count_kept, length-counted, length-counts, uncounted_named, from_absent}
+use Rattle.machine.proofs.Entry.{after_entry}
 
 -- What is counted
 
@@ -155,7 +156,7 @@ module _ {s : List ℕ} {l : Layout} {counts list : List ℕ} {from : State} {mo
 run_append : (p : Program) (r : Run) (xs ys : List ℕ) → run_from p r (xs ++ ys) ≡ run_from p (run_from p r xs) ys
 unfolding run_from
 run_append p r [] ys = refl
-run_append p r (x ∷ xs) ys = run_append p _ xs ys
+run_append p r (x ∷ xs) ys = run_append p (after_entry p r x) xs ys
 
 -- before the part at index i
 pub record Between (s : List ℕ) (l : Layout) (counts list vs₀ ks₀ : List ℕ) (ths₀ : List Thread) (vs ks : List ℕ) (ths : List Thread)

@@ -17,6 +17,7 @@ use Rattle.machine.specs.declared.thread.Outcome.{Outcome}
 use Rattle.machine.specs.declared.thread.Outcome.TheVariants.{Moved, Waiting, Idle}
 use Rattle.machine.specs.declared.thread.Thread.{Thread}
 use Rattle.machine.proofs.Sums.{count_kept}
+use Rattle.machine.proofs.Entry.{after_entry}
 
 abbrev pub AtEnd : Program → State → ℕ → Type 0
 AtEnd p s t = (thread_of s t).place ≡ length (code_of p t)
@@ -61,13 +62,13 @@ module _ (p : Program) where
   pub run_stays : (r : Run) (ts : List ℕ) (t : ℕ) → AtEnd p r.state t → AtEnd p (run_from p r ts).state t
   unfolding run_from
   run_stays r [] t e = e
-  run_stays r (u ∷ us) t e = run_stays _ us t (stays u r.state t e)
+  run_stays r (u ∷ us) t e = run_stays (after_entry p r u) us t (stays u r.state t e)
 
   pub never_idle : (r : Run) (ts : List ℕ) (t : ℕ) → (AtEnd p (run_from p r ts).state t → ⊥)
       → (counts_of (run_from p r ts).counts t).idle ≡ (counts_of r.counts t).idle
   unfolding run_from
   never_idle r [] t n = refl
   never_idle r (u ∷ us) t n =
-      never_idle _ us t n
+      never_idle (after_entry p r u) us t n
       ∙ not_idle (outcome p u r.state) r.counts u t
       (λ e same. n (run_stays _ us t (stays u r.state t (idle_at_end r.state t (rw same e)))))

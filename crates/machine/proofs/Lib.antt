@@ -8,6 +8,7 @@
 --     Threads      threads in two arrays
 --     Effect       what an instruction does, as the code says it
 --     Ends         a thread that is not at its end was never idle
+--     Entry        a run after one entry
 --     Between      the loop over the entries of a list
 --     Start        the initial values, as a loop finds them; the start in arrays
 --     StateBytes   the state's bytes, as loops write them
@@ -22,6 +23,7 @@ pub mod Kept
 pub mod Threads
 pub mod Effect
 pub mod Ends
+pub mod Entry
 pub mod Between
 pub mod Start
 pub mod StateBytes

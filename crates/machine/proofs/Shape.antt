@@ -26,6 +26,7 @@ use Rattle.machine.specs.declared.thread.Outcome.TheVariants.{Moved, Waiting, Id
 use Rattle.machine.specs.declared.thread.Thread.{Thread}
 use Rattle.machine.proofs.Kept.{length-variables_after, length-locks_after, length-registers_after}
 use Rattle.machine.proofs.StateBytes.{length-words, length-thread}
+use Rattle.machine.proofs.Entry.{after_entry}
 
 pub record Shape (p : Program) (s : State) : Type 0 where
   pub variables : length s.variables ≡ length p.variables
@@ -65,7 +66,7 @@ module _ (p : Program) where
   shape_from : (r : Run) (ts : List ℕ) → Shape p r.state → Shape p (run_from p r ts).state
   unfolding run_from
   shape_from r [] h = h
-  shape_from r (t ∷ ts) h = shape_from _ ts (shape_step t r.state h)
+  shape_from r (t ∷ ts) h = shape_from (after_entry p r t) ts (shape_step t r.state h)
 
   pub shape_run : (ts : List ℕ) → Shape p (run p ts).state
   unfolding run

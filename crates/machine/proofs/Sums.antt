@@ -23,6 +23,7 @@ use Rattle.machine.specs.Run.{Entries, Run, uncounted, counts_of, counted, count
 use Rattle.machine.specs.declared.counts.Counts.{Counts}
 use Rattle.machine.specs.declared.thread.Outcome.{Outcome}
 use Rattle.machine.specs.declared.thread.Outcome.TheVariants.{Moved, Waiting, Idle}
+use Rattle.machine.proofs.Entry.{after_entry}
 
 pub counted_once : (o : Outcome) (c : Counts) → total (counted o c) ≡ total c + 1
 unfolding total
@@ -62,7 +63,7 @@ module _ (p : Program) where
   pub length-counts : (r : Run) (ts : List ℕ) → length (run_from p r ts).counts ≡ length r.counts
   unfolding run_from
   length-counts r [] = refl
-  length-counts r (t ∷ ts) = length-counts _ ts ∙ length-counted t (outcome p t r.state) r.counts
+  length-counts r (t ∷ ts) = length-counts (after_entry p r t) ts ∙ length-counted t (outcome p t r.state) r.counts
 
   length_run : (ts : List ℕ) → length (run p ts).counts ≡ thread_limit
   unfolding run
@@ -74,7 +75,7 @@ module _ (p : Program) where
   from_named r [] t h = omega arith
   from_named r (u ∷ us) t h =
       let o = outcome p u r.state in
-      from_named _ us t (omega (arith, length-counted u o r.counts))
+      from_named (after_entry p r u) us t (omega (arith, length-counted u o r.counts))
       ∙ ap (λ (n : ℕ). n + times_named t us) (counted_named u o r.counts t h)
       ∙ omega arith
 
@@ -101,7 +102,7 @@ module _ (p : Program) where
   from_sum r [] h = omega arith
   from_sum r (t ∷ ts) h =
       let o = outcome p t r.state in
-      from_sum _ ts (rw (length-counted t o r.counts) (entries_tail _ t ts h))
+      from_sum (after_entry p r t) ts (rw (length-counted t o r.counts) (entries_tail _ t ts h))
       ∙ ap (λ (n : ℕ). n + length ts) (sum-set r.counts t _ (entries_head _ t ts h) (counted_once o (counts_of r.counts t)))
       ∙ omega arith
 
@@ -113,7 +114,7 @@ module _ (p : Program) where
   unfolding run_from counted_for counts_of
   from_absent r [] n h t k = refl
   from_absent r (u ∷ us) n h t k =
-      from_absent _ us n (entries_tail n u us h) t k
+      from_absent (after_entry p r u) us n (entries_tail n u us h) t k
       ∙ get_or-set_other r.counts u t _ uncounted (λ e. let z : ⊥ = omega (arith, entries_head n u us h) in z)
 
   pub run_absent : (ts : List ℕ) (n : ℕ) → Entries n ts → (t : ℕ) → n ≤ t → counts_of (run p ts).counts t ≡ uncounted

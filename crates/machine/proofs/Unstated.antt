@@ -11,6 +11,7 @@ use Rattle.program.specs.declared.instruction.Instruction.TheVariants.{End}
 use Rattle.machine.specs.Run.{Run, run_from, run}
 use Rattle.machine.specs.State.{State, start, thread_of}
 use Rattle.machine.specs.Step.{result_of, registers_after, place_after, thread_after, instruction_of, move_by, outcome, step}
+use Rattle.machine.proofs.Entry.{after_entry}
 
 -- ---- an instruction
 
@@ -43,7 +44,7 @@ module _ (p : Program) (t : ℕ) (s : State) where
 from_unstated : (p : Program) (r : Run) (list : List ℕ) → run_from (unstated_program p) r list ≡ run_from p r list
 unfolding run_from
 from_unstated p r [] = refl
-from_unstated p r (t ∷ ts) = rw (outcome_unstated p t r.state, step_unstated p t r.state) (from_unstated p _ ts)
+from_unstated p r (t ∷ ts) = rw (outcome_unstated p t r.state, step_unstated p t r.state) (from_unstated p (after_entry p r t) ts)
 
 pub run_unstated : (p : Program) (list : List ℕ) → run (unstated_program p) list ≡ run p list
 unfolding run start unstated_program

@@ -1,0 +1,10 @@
+-- `fill_rules`: the rules of the variables before v stand in both tables. Assumes nothing.
+use Prim.Native.Nat.{◌-◌}
+use Rattle.judge.proofs.AccessRules.{RulesFilled}
+use Rattle.judge.proofs.access_rule.fill_rules.Given as goal
+
+abbrev pub invariant-loop-v : goal.invariant-loop-v
+invariant-loop-v l = RulesFilled l.s l.l l.code l.reads l.writes l.v
+
+abbrev pub decreases-loop-v : goal.decreases-loop-v
+decreases-loop-v l = l.l.variables - l.v

@@ -1,0 +1,140 @@
+-- `entries` meets its contract. The loop's invariant: running the entries that are left from what is kept is running the whole list, and
+-- the loop stops before the list's end only where every thread is at its end. Assumes nothing.
+use Rattle.std.proofs.Common.{◌≡◌, ℕ, ◌+◌, ◌-◌, ◌<◌, ◌≤◌, List, length, get_or, take, drop, refl, ap, ◌∙◌, arith, length-drop, length-take, length-take-le, get_or-drop, get_or-take, rules}
+use mathlib.Core.Logic.{dite}
+use native.Mathlib.Decide.{dec_lt}
+use Rattle.program.specs.Layout.{program_of}
+use Rattle.program.specs.Limits.{thread_limit}
+use Rattle.machine.specs.Run.{Entries, run_from}
+use Rattle.machine.specs.Internal.Kept.{threads_in, from_here, nobody, Ended}
+use Rattle.machine.specs.declared.thread.Thread.{Thread}
+use Rattle.machine.proofs.Between.{Between, Whole, between_start, between_next, between_end, whole_tally, whole_counts}
+use Rattle.machine.proofs.Threads.{threads_at}
+use Rattle.std.proofs.Common.{rules}
+use Rattle.machine.proofs.run.entries.Goals.{After-waiting-1, At-loop-i, Start}
+use Rattle.machine.proofs.run.entries.Goals as goal
+
+-- a part is as long as it is cut
+part_long : (list : List ℕ) (i e : ℕ) → i ≤ e → e ≤ length list → length (take (e - i) (drop i list)) ≡ e - i
+part_long list i e h k = length-take-le (e - i) (drop i list) (omega (arith, length-drop i list))
+
+-- each entry of a part names a thread
+part_named : (threads : ℕ) (list : List ℕ) (i n : ℕ) → Entries threads list → Entries threads (take n (drop i list))
+unfolding Entries
+part_named threads list i n h j k =
+    let a : j < n = omega (arith, k, length-take n (drop i list)) in
+    let b : i + j < length list = omega (arith, k, length-take n (drop i list), length-drop i list) in
+    rw (get_or-take n (drop i list) j 0 a, get_or-drop i list j 0) (h (i + j) b)
+
+-- where a part is run: what holds past it
+module _ (c : tie.After-part-entries invariant-loop decreases-loop) where
+  abbrev start : tie.Start invariant-loop decreases-loop
+  start = c.before.before.before.before.before.before.before.before.before.before.before.before.before.before
+
+  abbrev i : ℕ
+  i = c.before.before.before.before.before.before.before.before.before.before.loop.i
+
+  abbrev e : ℕ
+  e = c.before.before.before.before.before.before.before.before.part_end.result
+
+  forward : (i < e) × (e ≤ length start.args.list.now)
+  forward = c.before.before.before.before.before.before.before.before.part_end.ensures
+
+  before_stop : i < c.before.before.before.before.before.before.before.before.before.before.loop.stop
+  before_stop = c.before.before.before.before.before.before.before.before.before.loop-test.true
+
+  -- the loop has not stopped
+  going : {A : Type 0} → c.before.before.before.before.before.before.before.before.before.before.loop.stop < length start.args.list.now → A
+  going h = absurd (let z : ⊥ = omega (arith, (c.before.before.before.before.before.before.before.before.before.before.loop.invariant.2 h).0, before_stop) in z)
+
+  -- so it goes on to the list's end
+  to_end : c.before.before.before.before.before.before.before.before.before.before.loop.stop ≡ length start.args.list.now
+  to_end = dite (dec_lt c.before.before.before.before.before.before.before.before.before.before.loop.stop (length start.args.list.now)) going
+      (λ (n : ¬ (c.before.before.before.before.before.before.before.before.before.before.loop.stop < length start.args.list.now)). omega (arith, n, c.before.before.before.before.before.before.before.before.before.before.loop.invariant.1))
+
+  past : let after = c.part-entries.new.1.1.1.1.1.1 in
+      Between start.args.s.now start.args.l start.args.counts.now start.args.list.now
+      start.args.variables.now start.args.locks.now (threads_in start.args.places.now start.args.registers.now)
+      after.0 after.1.0 (threads_in after.1.1.0 after.1.1.1.0) after.1.1.1.1.1.0 after.1.1.1.1.1.1.0 e
+  past =
+      let list = start.args.list.now in
+      let does = c.part-entries.ensures in
+      let there : i + (e - i) ≡ e = omega (arith, forward.0) in
+      let long : i + length (take (e - i) (drop i list)) ≡ i + (e - i) = ap (λ (n : ℕ). i + n) (part_long list i e (omega (arith, forward.0)) forward.1) in
+      rw there at (between_next c.before.before.before.before.before.before.before.before.before.before.loop.invariant.3 (e - i) does.0 (rw long at does.1.0) does.1.1)
+
+pub loop-i-init : goal.loop-i-init
+loop-i-init c = (omega arith, omega arith, λ h. absurd (let z : ⊥ = omega arith in z), between_start _ _ c.requires.4)
+
+-- `let e = part_end(i, list.len())`
+pub part_end-e-requires : goal.part_end-e-requires
+part_end-e-requires c = omega (arith, c.loop-i-test.true, c.loop-i.invariant.1)
+
+-- `part_entries(`
+pub slice_bounds-part_entries-count : goal.slice_bounds-part_entries-count
+slice_bounds-part_entries-count c = omega (arith, c.part_end-e.ensures.0)
+
+pub part_entries-requires : goal.part_entries-requires
+part_entries-requires c =
+    let b = ((goal.at.part_entries-requires c).Start) in
+    let o = c.loop-i in
+    let p = c.part_end-e in
+    let list = b.args.list.now in
+    let long = part_long list o.i p.result (omega (arith, p.ensures.0)) p.ensures.1 in (
+      b.requires.0,
+      b.requires.1,
+      part_named b.args.l.threads list o.i (p.result - o.i) b.requires.2,
+      o.invariant.3.kept,
+      o.invariant.3.at_most,
+      omega (arith, long, p.ensures.0, p.ensures.1, b.requires.3),
+    )
+
+-- `stop = i`
+pub loop-i-smaller-then-all_ended : goal.loop-i-smaller-then-all_ended
+loop-i-smaller-then-all_ended c = let s = ((goal.at.loop-i-smaller-then-all_ended c).After-waiting-1) in omega (arith, before_stop s, (forward s).0)
+
+pub loop-i-preserved-then-all_ended : goal.loop-i-preserved-then-all_ended
+loop-i-preserved-then-all_ended c =
+    let s = ((goal.at.loop-i-preserved-then-all_ended c).After-waiting-1) in
+    (omega arith, (forward s).1, λ h. (refl, c.all_ended.ensures c.if-all_ended.true), past s)
+
+pub loop-i-smaller : goal.loop-i-smaller
+loop-i-smaller c = let s = ((goal.at.loop-i-smaller c).After-waiting-1) in omega (arith, before_stop s, (forward s).0)
+
+pub loop-i-preserved : goal.loop-i-preserved
+loop-i-preserved c =
+    let s = ((goal.at.loop-i-preserved c).After-waiting-1) in
+    (omega (arith, to_end s, (forward s).1), omega (arith, to_end s), going s, past s)
+
+-- where the loop has ended: the whole list is run
+module _ (c : tie.After-loop invariant-loop decreases-loop) where
+  abbrev begun : tie.Start invariant-loop decreases-loop
+  begun = c.before.before.before.before.before
+
+  -- where the threads are
+  there : (t : ℕ) → t < thread_limit
+      → (get_or (threads_in c.before.loop.places c.before.loop.registers) t nobody).place ≡ get_or c.before.loop.places t 0
+  there t h =
+      let o = c.before.loop in
+      ap (λ (th : Thread). th.place) (threads_at o.places o.registers t (omega (arith, o.invariant.3.kept.threads)))
+
+  whole : let o = c.before.loop in
+      Whole begun.args.l begun.args.counts.now begun.args.list.now o.variables o.locks (threads_in o.places o.registers) o.moved o.waiting
+      (run_from (program_of begun.args.s.now begun.args.l)
+      (from_here begun.args.l begun.args.variables.now begun.args.locks.now (threads_in begun.args.places.now begun.args.registers.now))
+      begun.args.list.now)
+  unfolding Ended
+  whole =
+      let o = c.before.loop in
+      between_end begun.pre.1 begun.pre.2 o.invariant.3 (λ h t k.
+      let small : t < thread_limit = omega (arith, begun.pre.1.sound.threads) in
+      there t small ∙ (o.invariant.2 (omega (arith, c.loop-test.false))).1 t small)
+
+-- `counts_of(list, counts, places, &moved, &waiting)`
+pub counts_of-requires : goal.counts_of-requires
+counts_of-requires c = let l = ((goal.at.counts_of-requires c).At-loop-i) in whole_tally (whole l) l.loop-i.places (there l)
+
+pub returns : goal.returns
+returns c =
+    let l = ((goal.at.returns c).At-loop-i) in
+    (whole_counts (whole l) c.counts_of.result (search rules) c.counts_of.ensures, l.loop-i.invariant.3.kept)
