@@ -21,4 +21,4 @@ returns c =
     let l = c.loop-i in
     let word = c.args.word.now in
     let e : l.i ≡ length word = omega arith in
-    (word_ended c.args.end (laid_same l.invariant.2 (take_all l.i word (omega arith)) refl), omega arith)
+    record { laid_word = word_ended c.args.end (laid_same l.invariant.2 (take_all l.i word (omega arith)) refl); value = omega arith }
