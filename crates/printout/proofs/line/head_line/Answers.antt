@@ -1,13 +1,8 @@
 -- `head_line` meets its contract. Assumes nothing.
 use native.Mathlib.Omega.{arith}
 use Rattle.printout.proofs.Stored.{line_more, line_last, line_written}
-use Rattle.printout.proofs.line.head_line.Goals.{After-byte_at}
 use Rattle.printout.proofs.line.head_line.Goals as goal
 
 pub returns : goal.returns
 returns c =
-    let third = ((goal.at.returns c).After-byte_at) in
-    let second = third in
-    let first = second in
-    let start = first in
-    line_written (omega (arith, first.raw_at-next.ensures.1, second.copy_at-next.ensures.1, third.byte_at.ensures.1, start.requires.1)) start.requires.2 (line_more first.raw_at-next.ensures.0 (line_more second.copy_at-next.ensures.0 (line_last third.byte_at.ensures.0)))
+    line_written (omega (arith, c.raw_at-next.ensures.value, c.copy_at-next.ensures.value, c.byte_at.ensures.upper_bound, c.requires.1)) c.requires.2 (line_more c.raw_at-next.ensures.laid_word (line_more c.copy_at-next.ensures.laid_word (line_last c.byte_at.ensures.laid_word)))

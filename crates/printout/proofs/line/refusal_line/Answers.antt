@@ -5,28 +5,18 @@ use Rattle.printout.specs.Text.{ascii}
 use Rattle.printout.specs.Line.{refusal_line}
 use Rattle.printout.proofs.Stored.{line_more, line_last, line_written}
 use Rattle.printout.proofs.Digits.{decimal_length}
-use Rattle.printout.proofs.line.refusal_line.Goals.{After-copy_at-next-2, After-number_at}
 use Rattle.printout.proofs.line.refusal_line.Goals as goal
 
 -- `number_at(out, next, d, b'\n')`
 pub number_at-requires : goal.number_at-requires
 number_at-requires c =
-    let third = ((goal.at.number_at-requires c).After-copy_at-next-2) in
-    let second = third in
-    let first = second in
-    let counted = first in
-    let h : counted.detail-d.result < 10 ^ 20 = omega (arith, counted.detail-d.type-inv) in
-    omega (arith, decimal_length 19 counted.detail-d.result h, third.copy_at-next-2.ensures.1, third.copy_at-next-2.auto.0, second.short_at-next.ensures.1, second.short_at-next.auto.0, first.copy_at-next.ensures.1, first.copy_at-next.auto.0, c.requires)
+    let h : c.detail-d.result < 10 ^ 20 = omega (arith, c.detail-d.type_inv) in
+    omega (arith, decimal_length 19 c.detail-d.result h, c.copy_at-next-2.ensures.value, c.copy_at-next-2.auto.out, c.short_at-next.ensures.upper_bound, c.short_at-next.auto.out, c.copy_at-next.ensures.value, c.copy_at-next.auto.out, c.requires)
 
 pub returns : goal.returns
 unfolding refusal_line ascii
 returns c =
-    let fourth = ((goal.at.returns c).After-number_at) in
-    let third = fourth in
-    let second = third in
-    let first = second in
-    let counted = first in
-    let h : counted.detail-d.result < 10 ^ 20 = omega (arith, counted.detail-d.type-inv) in
-    rw (← counted.detail-d.ensures, ← counted.number-n.ensures.0)
-    (line_written (omega (arith, decimal_length 19 counted.detail-d.result h, fourth.number_at.ensures.1, third.copy_at-next-2.ensures.1, second.short_at-next.ensures.1, first.copy_at-next.ensures.1)) c.requires
-    (line_more first.copy_at-next.ensures.0 (line_more second.short_at-next.ensures.0 (line_more third.copy_at-next-2.ensures.0 (line_last fourth.number_at.ensures.0)))))
+    let h : c.detail-d.result < 10 ^ 20 = omega (arith, c.detail-d.type_inv) in
+    rw (← c.detail-d.ensures, ← c.number-n.ensures.value)
+    (line_written (omega (arith, decimal_length 19 c.detail-d.result h, c.number_at.ensures.value, c.copy_at-next-2.ensures.value, c.short_at-next.ensures.upper_bound, c.copy_at-next.ensures.value)) c.requires
+    (line_more c.copy_at-next.ensures.laid_word (line_more c.short_at-next.ensures.laid_word (line_more c.copy_at-next-2.ensures.laid_word (line_last c.number_at.ensures.laid_word)))))

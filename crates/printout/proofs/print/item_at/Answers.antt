@@ -1,12 +1,12 @@
 -- `item_at` meets its contract: the lines of the codes before `t` are passed. Assumes nothing.
-use Prim.Native.Nat.{◌+◌, ◌-◌, ◌≤◌}
+use Prim.Native.Nat.{◌+◌, ◌≤◌}
 use mathlib.Core.Path.{◌≡◌}
 use native.Mathlib.Omega.{arith}
 use lib.ListN.{get_or}
 use Rattle.program.specs.Internal.Sections.{bytes_before}
 use Rattle.program.specs.Limits.{report_limit}
 use Rattle.program.proofs.SectionTable.{bytes_one_more, bytes_grow}
-use Rattle.printout.proofs.print.item_at.Goals.{After-way_told-1, In-loop-t}
+use Rattle.printout.proofs.print.item_at.Goals.{In-loop-t}
 use Rattle.printout.proofs.print.item_at.Goals as goal
 
 -- how many lines there are up to the code's last
@@ -23,13 +23,13 @@ loop-t-init c = omega arith
 
 -- `from = from + count + 1`
 pub overflow_add-from : goal.overflow_add-from
-overflow_add-from c = omega (arith, past_code ((goal.at.overflow_add-from c).After-way_told-1))
+overflow_add-from c = omega (arith, past_code ((goal.at.overflow_add-from c).In-loop-t))
 
 pub overflow_add-from-in-loop-t : goal.overflow_add-from-in-loop-t
-overflow_add-from-in-loop-t c = omega (arith, past_code ((goal.at.overflow_add-from-in-loop-t c).After-way_told-1))
+overflow_add-from-in-loop-t c = omega (arith, past_code ((goal.at.overflow_add-from-in-loop-t c).In-loop-t))
 
 pub loop-t-preserved : goal.loop-t-preserved
-loop-t-preserved c = omega (arith, past_code ((goal.at.loop-t-preserved c).After-way_told-1))
+loop-t-preserved c = omega (arith, past_code ((goal.at.loop-t-preserved c).In-loop-t))
 
 pub returns : goal.returns
 returns c =

@@ -14,7 +14,7 @@ use Rattle.printout.specs.Internal.Item.{ItemAt, whole_line}
 use Rattle.printout.specs.declared.print.Item.TheVariants.{Thread, Code, Whole}
 use Rattle.printout.proofs.Parts.{item_thread, item_code, item_whole}
 use Rattle.printout.proofs.Stored.{line_written_same}
-use Rattle.printout.proofs.print.print_item.Goals.{After-way_told-1, In-Code, In-Thread, In-Whole}
+use Rattle.printout.proofs.print.print_item.Goals.{In-Code, In-Thread, In-Whole}
 use Rattle.printout.proofs.print.print_item.Goals as goal
 
 -- what the table says of thread t's code
@@ -67,10 +67,10 @@ pub offset_bounds-counts-t : goal.offset_bounds-counts-t
 offset_bounds-counts-t c = omega (arith, thread_item ((goal.at.offset_bounds-counts-t c).In-Thread))
 
 pub bounds-counts-t : goal.bounds-counts-t
-bounds-counts-t c = omega (arith, thread_item ((goal.at.bounds-counts-t c).After-way_told-1))
+bounds-counts-t c = omega (arith, thread_item ((goal.at.bounds-counts-t c).In-Thread))
 
 pub thread_line-requires : goal.thread_line-requires
-thread_line-requires c = omega (arith, thread_item ((goal.at.thread_line-requires c).After-way_told-1), c.requires.4)
+thread_line-requires c = omega (arith, thread_item ((goal.at.thread_line-requires c).In-Thread), c.requires.4)
 
 -- `let byte = report_byte(counts, report, t, place)`
 pub report_byte-byte-requires : goal.report_byte-byte-requires
@@ -107,7 +107,7 @@ whole_line-requires c = omega (arith, whole_item ((goal.at.whole_line-requires c
 -- `Item::Thread(t) => thread_line(file, starts[t] - 2, t, counts[t], out)`
 pub returns-in-Thread : goal.returns-in-Thread
 returns-in-Thread c =
-    let arm = ((goal.at.returns-in-Thread c).After-way_told-1) in
+    let arm = ((goal.at.returns-in-Thread c).In-Thread) in
     let start = arm in
     line_written_same (item_thread start.requires.1 start.args.report.now _ _ (thread_item arm).0) c.thread_line.ensures
 

@@ -1,6 +1,5 @@
 -- `copy_at` meets its contract. The invariant: the first i bytes of the word are laid. Assumes nothing.
 use mathlib.Core.Path.{◌≡◌, refl}
-use Prim.Native.Nat.{◌-◌}
 use native.Mathlib.Omega.{arith}
 use lib.ListN.{length, length-set}
 use lib.Seq.{take_all}
@@ -21,4 +20,4 @@ returns c =
     let l = c.loop-i in
     let word = c.args.word.now in
     let e : l.i ≡ length word = omega arith in
-    (word_ended c.args.end (laid_same l.invariant.2 (take_all l.i word (omega arith)) refl), omega arith)
+    record { laid_word = word_ended c.args.end (laid_same l.invariant.2 (take_all l.i word (omega arith)) refl); value = omega arith }

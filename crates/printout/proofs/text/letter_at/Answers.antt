@@ -21,4 +21,4 @@ returns c =
     let a = c.args in
     let h : 6 ≤ a.byte = c.if-byte-lt6.false in
     let e : letter a.byte ≡ [] = ap (take 1) (drop_of_length-le (ascii "-BLRAT") h) in
-    (word_ended a.end (laid_same (laid_none a.at a.out.now) (sym e) refl), omega arith)
+    record { laid_word = word_ended a.end (laid_same (laid_none a.at a.out.now) (sym e) refl); upper_bound = omega arith }

@@ -18,4 +18,4 @@ unfolding lettered
 returns c =
     let n = c.args.n in
     let h : n < 10 ^ 3 = omega (arith, c.ranges.n) in
-    (word_first c.args.letter c.number_at.ensures.0, omega (arith, decimal_length 2 n h, c.number_at.ensures.1))
+    record { laid_word = word_first c.args.letter c.number_at.ensures.laid_word; upper_bound = omega (arith, decimal_length 2 n h, c.number_at.ensures.value) }

@@ -15,4 +15,4 @@ pub returns : goal.returns
 returns c =
     let a = c.args in
     let e : take 1 (drop a.i a.text.now) ≡ get_or a.text.now a.i 0 ∷ [] = ap (take 1) (drop-cons a.text.now a.i 0 c.requires.0) in
-    (word_ended a.end (laid_same (laid_byte (get_or a.text.now a.i 0) a.at a.out.now) (sym e) refl), omega arith)
+    record { laid_word = word_ended a.end (laid_same (laid_byte (get_or a.text.now a.i 0) a.at a.out.now) (sym e) refl); upper_bound = omega arith }

@@ -16,4 +16,4 @@ returns c =
     let n = c.args.n in
     let h : n < 10 ^ 5 = c.requires.0 in
     let number = c.number_at in
-    (number.ensures.0, omega (arith, decimal_length 4 n h, number.ensures.1))
+    record { laid_word = number.ensures.laid_word; upper_bound = omega (arith, decimal_length 4 n h, number.ensures.value) }

@@ -1,12 +1,8 @@
 -- `name_register_number` meets its contract. Assumes nothing.
 use native.Mathlib.Omega.{arith}
 use Rattle.printout.proofs.Stored.{words_more, words_last}
-use Rattle.printout.proofs.words.name_register_number.Goals.{After-short_at}
 use Rattle.printout.proofs.words.name_register_number.Goals as goal
 
 pub returns : goal.returns
 returns c =
-    let third = ((goal.at.returns c).After-short_at) in
-    let second = third in
-    let first = second in
-    (words_more first.copy_at-next.ensures.0 (words_more second.lettered_at-next.ensures.0 (words_last third.short_at.ensures.0)), omega arith)
+    record { laid_words = words_more c.copy_at-next.ensures.laid_word (words_more c.lettered_at-next.ensures.laid_word (words_last c.short_at.ensures.laid_word)); upper_bound = omega arith }
