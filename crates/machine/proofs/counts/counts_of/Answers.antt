@@ -7,10 +7,6 @@ use Rattle.machine.specs.declared.counts.Counts.{Counts}
 use Rattle.std.proofs.Common.{rules}
 use Rattle.machine.proofs.counts.counts_of.Goals as goal
 
--- the counts of the threads before t
-abbrev Counted : (list moved waiting : List ℕ) → List Counts → ℕ → Type 0
-Counted list moved waiting all t = (u : ℕ) → u < t → counts_of all u ≡ tallied list u (get_or moved u 0) (get_or waiting u 0)
-
 pub loop-t-init : goal.loop-t-init
 loop-t-init c = (omega arith, search rules, λ u h. absurd (let z : ⊥ = omega arith in z))
 

@@ -9,21 +9,12 @@ unfolding times_named
 loop-i-init c = (omega arith, refl)
 
 -- where part of the list is counted: the entries so far
-module _ (c : tie.After-part-names invariant-loop decreases-loop) where
-  abbrev i : ℕ
-  i = c.before.before.before.loop.i
-
-  abbrev list : List ℕ
-  list = c.before.before.before.before.before.args.list.now
-
-  abbrev t : ℕ
-  t = c.before.before.before.before.before.args.t
-
-  one_part : c.before.before.before.loop.n + c.part-names.result ≡ times_named t (take (i + 192) list)
-  one_part =
-      let e : i + 192 - i ≡ 192 = omega arith in
-      let r : c.part-names.result ≡ times_named t (take 192 (drop i list)) = rw e at c.part-names.ensures in
-      omega (arith, names_part t i 192 list, c.before.before.before.loop.invariant.1, r)
+one_part : (t i n named : ℕ) (list : List ℕ) → n ≡ times_named t (take i list) → named ≡ times_named t (take (i + 192 - i) (drop i list))
+    → n + named ≡ times_named t (take (i + 192) list)
+one_part t i n named list e f =
+    let g : i + 192 - i ≡ 192 = omega arith in
+    let r : named ≡ times_named t (take 192 (drop i list)) = rw g at f in
+    omega (arith, names_part t i 192 list, e, r)
 
 pub part_names-requires : goal.part_names-requires
 part_names-requires c =
@@ -31,10 +22,15 @@ part_names-requires c =
     omega (arith, part_short i (i + 192 - i) c.args.list.now)
 
 pub overflow_add-n : goal.overflow_add-n
-overflow_add-n c = omega (arith, one_part c, names_first (t c) (i c + 192) (list c))
+overflow_add-n c =
+    let o = c.loop-i in
+    let a = c.args in
+    omega (arith, one_part a.t o.i o.n _ a.list.now o.invariant.1 c.part_names.ensures, names_first a.t (o.i + 192) a.list.now)
 
 pub loop-i-preserved : goal.loop-i-preserved
-loop-i-preserved c = (omega arith, one_part c)
+loop-i-preserved c =
+    let o = c.loop-i in
+    (omega arith, one_part c.args.t o.i o.n _ c.args.list.now o.invariant.1 c.part_names.ensures)
 
 pub part_names-requires-2 : goal.part_names-requires-2
 part_names-requires-2 c =
@@ -43,17 +39,13 @@ part_names-requires-2 c =
     omega (arith, part_short i (length l - i) l)
 
 -- the whole list
-module _ (c : tie.After-part-names2 invariant-loop decreases-loop) where
-  abbrev whole : List ℕ
-  whole = c.before.before.before.before.before.args.list.now
-
-  all_parts : c.before.before.before.loop.n + c.part-names2.result ≡ times_named c.before.before.before.before.before.args.t whole
-  all_parts =
-      let o = c.before.before.before.loop in
-      omega (arith, names_rest c.before.before.before.before.before.args.t o.i whole, o.invariant.1, c.part-names2.ensures)
-
 pub overflow_add-result : goal.overflow_add-result
-overflow_add-result c = omega (arith, all_parts c, names_at_most c.args.t (whole c))
+overflow_add-result c =
+    let o = c.loop-i in
+    let a = c.args in
+    omega (arith, names_rest a.t o.i a.list.now, o.invariant.1, c.part_names-2.ensures, names_at_most a.t a.list.now)
 
 pub returns : goal.returns
-returns c = all_parts c
+returns c =
+    let o = c.loop-i in
+    omega (arith, names_rest c.args.t o.i c.args.list.now, o.invariant.1, c.part_names-2.ensures)

@@ -7,6 +7,37 @@ use Rattle.machine.proofs.Effect.{effect_of_lem, does_branch}
 use Rattle.machine.proofs.Fields.{fields_eq}
 use Rattle.machine.proofs.moves.move_of.Goals as goal
 
+-- the registers that are read
+pub bounds-r-b : goal.bounds-r-b
+bounds-r-b c = (fields_eq c.in-Copy.is c.requires.0).0.1.0
+
+pub bounds-r-b-in-Add : goal.bounds-r-b-in-Add
+bounds-r-b-in-Add c = (fields_eq c.in-Add.is c.requires.0).0.1.0
+
+pub bounds-r-c : goal.bounds-r-c
+bounds-r-c c = (fields_eq c.in-Add.is c.requires.0).0.1.1.0
+
+pub bounds-r-b-in-Sub : goal.bounds-r-b-in-Sub
+bounds-r-b-in-Sub c = (fields_eq c.in-Sub.is c.requires.0).0.1.0
+
+pub bounds-r-c-in-Sub : goal.bounds-r-c-in-Sub
+bounds-r-c-in-Sub c = (fields_eq c.in-Sub.is c.requires.0).0.1.1.0
+
+pub bounds-r-b-in-Less : goal.bounds-r-b-in-Less
+bounds-r-b-in-Less c = (fields_eq c.in-Less.is c.requires.0).0.1.0
+
+pub bounds-r-c-in-Less : goal.bounds-r-c-in-Less
+bounds-r-c-in-Less c = (fields_eq c.in-Less.is c.requires.0).0.1.1.0
+
+pub bounds-r-a : goal.bounds-r-a
+bounds-r-a c = (fields_eq c.in-Write.is c.requires.0).0.0
+
+pub bounds-r-a-in-If : goal.bounds-r-a-in-If
+bounds-r-a-in-If c = (fields_eq c.in-If.is c.requires.0).0.0
+
+pub bounds-r-a-in-While : goal.bounds-r-a-in-While
+bounds-r-a-in-While c = (fields_eq c.in-While.is c.requires.0).0.0
+
 -- `Instruction::Set(a, n) => Move::Sets(a, n as u32)`
 pub returns-in-Set : goal.returns-in-Set
 unfolding Does access_of result_of place_after place_behind form_of
@@ -56,8 +87,7 @@ returns-in-Give c = rw c.in-Give.is (effect_of_lem, (fields_eq c.in-Give.is c.re
 pub returns-in-If : goal.returns-in-If
 unfolding access_of result_of place_after place_behind form_of
 returns-in-If c =
-    let d = c.i-in-If-1.given.0 in
-    rw (c.branch-r.ensures, c.in-If.is) (does_branch _ _ _ d.0 d.1.0 effect_of_lem)
+    rw (c.branch-r.ensures, c.in-If.is) (does_branch _ _ _ c.in-If.a c.in-If.n effect_of_lem)
 
 -- `Instruction::Else(n) => Move::Goes(place + n as usize)`
 pub returns-in-Else : goal.returns-in-Else
@@ -68,8 +98,7 @@ returns-in-Else c = rw c.in-Else.is effect_of_lem
 pub returns-in-While : goal.returns-in-While
 unfolding access_of result_of place_after place_behind form_of
 returns-in-While c =
-    let d = c.i-in-While-1.given.0 in
-    rw (c.branch-r-in-While.ensures, c.in-While.is) (does_branch _ _ _ d.0 d.1.0 effect_of_lem)
+    rw (c.branch-r-in-While.ensures, c.in-While.is) (does_branch _ _ _ c.in-While.a c.in-While.n effect_of_lem)
 
 -- `Instruction::Again(n) => Move::Goes(back(place, n))`
 pub returns-in-Again : goal.returns-in-Again

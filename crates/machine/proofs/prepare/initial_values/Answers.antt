@@ -23,4 +23,8 @@ returns c =
     let o = c.loop-i in
     let a = c.args in
     let e : o.i ≡ a.l.variables = omega (arith, c.loop-i-test.false) in
-    (o.invariant.1, (rw e at o.invariant.2) ∙ take_all a.l.variables (start (program_of a.s.now a.l)).variables (omega (arith, length-initial a.s.now a.l)))
+    record {
+      variables_len = o.invariant.1;
+      variables_after =
+          (rw e at o.invariant.2) ∙ take_all a.l.variables (start (program_of a.s.now a.l)).variables (omega (arith, length-initial a.s.now a.l));
+    }

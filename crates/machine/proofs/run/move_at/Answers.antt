@@ -12,50 +12,47 @@ use Rattle.machine.proofs.Threads.{threads_set, threads_place}
 use Rattle.machine.proofs.run.move_at.Goals.{After-moved_thread-moved}
 use Rattle.machine.proofs.run.move_at.Goals as goal
 
-module _ (c : tie.After-moved-thread) where
-  abbrev start : tie.Start
-  start = c.before.before.before
-
+module _ (c : After-moved_thread-moved) where
   abbrev ps : List ℕ
-  ps = start.args.places.now
+  ps = c.args.places.now
 
   abbrev rs : List (List ℕ)
-  rs = start.args.registers.now
+  rs = c.args.registers.now
 
   abbrev t : ℕ
-  t = start.args.at
+  t = c.args.at
 
   abbrev m : Move
-  m = start.args.m
+  m = c.args.m
 
   abbrev i : Instruction
-  i = start.pre.0.0
+  i = c.requires.0.0
 
   -- what the Move says of the instruction, in the arm that knows it
   does : {m' : Move} → m ≡ m' → Does i (get_or rs t []) (get_or ps t 0) m'
-  does e = subst (λ (n : Move). Does i (get_or rs t []) (get_or ps t 0) n) e start.pre.0.1
+  does e = subst (λ (n : Move). Does i (get_or rs t []) (get_or ps t 0) n) e c.requires.0.1
 
   abbrev Laid : (ps' : List ℕ) (rs' : List (List ℕ)) → Type 0
-  Laid ps' rs' = (th : Thread) × MovedBy m start.args.value (thread_in ps rs t) th × (threads_in ps' rs' ≡ set (threads_in ps rs) t th)
+  Laid ps' rs' = (th : Thread) × MovedBy m c.args.value (thread_in ps rs t) th × (threads_in ps' rs' ≡ set (threads_in ps rs) t th)
 
   moved_registers : {a : Access} {result : ℕ → Result} {next : ℕ} → Effect i (get_or rs t []) (get_or ps t 0) a result next
-      → c.moved-thread.result.registers ≡ stored (result start.args.value) (get_or rs t [])
-  moved_registers e = registers_moved i m _ _ _ c.moved-thread.ensures start.pre.0.1 e
+      → c.moved_thread-moved.result.registers ≡ stored (result c.args.value) (get_or rs t [])
+  moved_registers e = registers_moved i m _ _ _ c.moved_thread-moved.ensures c.requires.0.1 e
 
   -- one register is set
   storing : {a : Access} {k : ℕ} {result : ℕ → ℕ} {next : ℕ} → Effect i (get_or rs t []) (get_or ps t 0) a (λ x. puts k (result x)) next
-      → Laid (set ps t c.moved-thread.result.place) (set rs t (set (get_or rs t []) k (result start.args.value)))
+      → Laid (set ps t c.moved_thread-moved.result.place) (set rs t (set (get_or rs t []) k (result c.args.value)))
   unfolding stored
   storing e = (
-    c.moved-thread.result,
-    c.moved-thread.ensures,
-    ap (λ (r : List ℕ). threads_in (set ps t c.moved-thread.result.place) (set rs t r)) (sym (moved_registers e)) ∙ threads_set ps rs t _ _,
+    c.moved_thread-moved.result,
+    c.moved_thread-moved.ensures,
+    ap (λ (r : List ℕ). threads_in (set ps t c.moved_thread-moved.result.place) (set rs t r)) (sym (moved_registers e)) ∙ threads_set ps rs t _ _,
   )
 
   -- none is
-  keeping : {a : Access} {next : ℕ} → Effect i (get_or rs t []) (get_or ps t 0) a (λ _. keeps) next → Laid (set ps t c.moved-thread.result.place) rs
+  keeping : {a : Access} {next : ℕ} → Effect i (get_or rs t []) (get_or ps t 0) a (λ _. keeps) next → Laid (set ps t c.moved_thread-moved.result.place) rs
   unfolding stored
-  keeping e = (c.moved-thread.result, c.moved-thread.ensures, threads_place ps rs t c.moved-thread.result (moved_registers e))
+  keeping e = (c.moved_thread-moved.result, c.moved_thread-moved.ensures, threads_place ps rs t c.moved_thread-moved.result (moved_registers e))
 
 pub bounds-registers-a : goal.bounds-registers-a
 unfolding Does

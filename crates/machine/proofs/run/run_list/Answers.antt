@@ -10,45 +10,47 @@ use Rattle.machine.proofs.Kept.{kept_start}
 use Rattle.machine.proofs.Start.{start_in}
 use Rattle.machine.proofs.Shape.{length-end_file}
 use Rattle.std.proofs.Common.{rules}
-use Rattle.machine.proofs.run.run_list.Goals.{After-entries-ran, Start}
+use Rattle.machine.proofs.run.run_list.Goals.{After-entries-ran}
 use Rattle.machine.proofs.run.run_list.Goals as goal
 
 -- `let ran = entries(`
 pub entries-ran-requires : goal.entries-ran-requires
 unfolding threads_in fresh
 entries-ran-requires c =
-    let b = ((goal.at.entries-ran-requires c).Start) in
-    let v = c.initial_values in
-    (b.requires.0, b.requires.1, b.requires.2, b.requires.3, kept_start b.args.l b.args.counts.now v.new.1.1.0 _ (search rules) refl)
+    let r = c.requires in
+    (r.0, r.1, r.2, r.3, kept_start c.args.l c.args.counts.now c.initial_values.new.variables _ (search rules) refl)
 
 pub write_state-requires : goal.write_state-requires
 write_state-requires c =
     let f = c.requires.1.sound in
-    let k = c.entries-ran.ensures.1 in
-    (omega arith, (omega (arith, k.variables, f.variables), omega (arith, k.locks, f.locks), f.threads, k.threads, k.registers))
+    let k = c.entries-ran.ensures.kept in
+    record {
+      threads_in_bounds = omega arith;
+      variables_in_bounds = (omega (arith, k.variables, f.variables), omega (arith, k.locks, f.locks), f.threads, k.threads, k.registers);
+    }
 
 -- what the entries left is the whole list's run
 entries_ran : (c : After-entries-ran)
     → let a = c.args in
-    let after = c.entries-ran.new.1.1.1.1.1.1 in
+    let after = c.entries-ran.new in
     run (program_of a.s.now a.l) a.list.now
-    ≡ record { counts = c.entries-ran.result; state = state_in a.l after.0 after.1.0 (threads_in after.1.1.0 after.1.1.1.0) }
+    ≡ record { counts = c.entries-ran.result; state = state_in a.l after.variables after.locks (threads_in after.places after.registers) }
 unfolding run fresh threads_in
 entries_ran c =
-    let b = c in
-    let a = b.args in
+    let a = c.args in
     let v = c.initial_values in
-    rw (← start_in a.s.now a.l v.new.1.1.0 b.requires.1.sound.locks b.requires.1.sound.threads v.ensures.1)
-    c.entries-ran.ensures.0
+    rw (← start_in a.s.now a.l v.new.variables c.requires.1.sound.locks c.requires.1.sound.threads v.ensures.variables_after)
+    c.entries-ran.ensures.list_value
 
 pub returns : goal.returns
 returns c =
-    let b = ((goal.at.returns c).Start) in
-    let a = b.args in
+    let a = c.args in
     let p = program_of a.s.now a.l in
-    let e = entries_ran ((goal.at.returns c).After-entries-ran) in (
-      ap (λ (r : Run). r.counts) (sym e),
-      c.write_state.ensures
+    let e = entries_ran ((goal.at.returns c).After-entries-ran) in
+    record {
+      counts = ap (λ (r : Run). r.counts) (sym e);
+      state =
+          c.write_state.ensures
           ∙ ap (λ (r : Run). sets a.out.now 0 (state_bytes r.state)) (sym e)
-          ∙ sets-front a.out.now (state_bytes (run p a.list.now).state) (omega (arith, length-end_file a.s.now a.l a.list.now, b.requires.4)),
-    )
+          ∙ sets-front a.out.now (state_bytes (run p a.list.now).state) (omega (arith, length-end_file a.s.now a.l a.list.now, c.requires.4));
+    }

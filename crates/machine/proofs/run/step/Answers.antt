@@ -2,89 +2,98 @@
 use Rattle.std.proofs.Common.{◌≡◌, ℕ, ◌+◌, ◌*◌, ◌<◌, ◌≤◌, List, [], get_or, sym, ap, ◌∙◌, arith}
 use Rattle.program.specs.Instruction.{decode_at, decoded_instruction}
 use Rattle.program.specs.Limits.{thread_limit}
-use Rattle.program.specs.Internal.Sections.{Located}
+use Rattle.program.specs.Internal.Sections.{SectionTable}
 use Rattle.program.specs.Internal.Seen.{RegistersGood}
-use Rattle.machine.specs.Internal.Kept.{threads_in, nobody}
+use Rattle.machine.specs.Internal.Kept.{threads_in, nobody, Kept}
 use Rattle.machine.specs.declared.thread.Thread.{Thread}
+use Rattle.program.specs.declared.layout.Layout.{Layout}
 use Rattle.machine.proofs.Kept.{step_idle, access_below_limits, stepped}
 use Rattle.machine.proofs.Threads.{threads_at}
-use Rattle.machine.proofs.run.step.Goals.{After-instruction_at-i, After-shared_slice_known-2-1, After-way_told-1, After-way_told-3-1, Else-place-counts}
+use Rattle.machine.proofs.run.step.Goals.{After-instruction_at-i}
 use Rattle.machine.proofs.run.step.Goals as goal
 
-module _ (c : tie.Start) where
+-- of the thread, by its number
+module _ {s : List ℕ} {l : Layout} {starts counts vs ks : List ℕ} (ps : List ℕ) (rs : List (List ℕ)) (t : ℕ)
+    (table : SectionTable s l starts counts) (kept : Kept l counts vs ks (threads_in ps rs)) (h : t < l.threads) where
+  small : t < thread_limit
+  small = omega (arith, h, table.sound.threads)
+
+  thread : get_or (threads_in ps rs) t nobody ≡ record { place = get_or ps t 0; registers = get_or rs t [] }
+  thread = threads_at ps rs t (omega (arith, small, kept.threads))
+
+  place : (get_or (threads_in ps rs) t nobody).place ≡ get_or ps t 0
+  place = ap (λ (th : Thread). th.place) thread
+
+  in_code : get_or ps t 0 ≤ get_or counts t 0
+  in_code = rw place at (kept.places t h)
+
+module _ (c : After-instruction_at-i) where
+  abbrev ps : List ℕ
+  ps = c.args.places.now
+
+  abbrev rs : List (List ℕ)
+  rs = c.args.registers.now
+
   abbrev t : ℕ
   t = c.args.t
 
-  abbrev ths : List Thread
-  ths = threads_in c.args.places.now c.args.registers.now
+  there : (get_or (threads_in ps rs) t nobody).place ≡ get_or ps t 0
+  there = place ps rs t c.requires.1 c.requires.3 c.requires.2
 
-  abbrev located : Located c.args.s.now c.args.l (get_or c.args.starts.now t 0) (get_or c.args.counts.now t 0) t
-  located = c.requires.1.located t c.requires.2
-
-  small : t < thread_limit
-  small = omega (arith, c.requires.2, c.requires.1.sound.threads)
-
-  thread : get_or ths t nobody ≡ record { place = get_or c.args.places.now t 0; registers = get_or c.args.registers.now t [] }
-  thread = threads_at c.args.places.now c.args.registers.now t (omega (arith, small, c.requires.3.threads))
-
-  place : (get_or ths t nobody).place ≡ get_or c.args.places.now t 0
-  place = ap (λ (th : Thread). th.place) thread
-
-  in_code : get_or c.args.places.now t 0 ≤ get_or c.args.counts.now t 0
-  in_code = rw place at (c.requires.3.places t c.requires.2)
-
--- where the thread is not at its code's end, it is at an instruction
-at_instruction : (c : Else-place-counts)
-    → let b = c in get_or b.args.places.now (t b) 0 < get_or b.args.counts.now (t b) 0
-at_instruction c = omega (arith, in_code c, c.if-place-counts.false)
-
-module _ (c : tie.After-instruction-at) where
-  abbrev start : tie.Start
-  start = c.before.before.before.before.before.before.before
-
-  not_at_end : (get_or (ths start) (t start) nobody).place ≡ get_or start.args.counts.now (t start) 0 → ⊥
-  not_at_end e = c.before.before.if1.false (sym (place start) ∙ e)
+  not_at_end : (get_or (threads_in ps rs) t nobody).place ≡ get_or c.args.counts.now t 0 → ⊥
+  not_at_end e = c.if-place-counts.false (sym there ∙ e)
 
   -- a sound file's instruction is valid, so it is the one read
-  read : (c.instruction-at.result
-      ≡ decoded_instruction (decode_at start.args.l.locks start.args.l.variables start.args.s.now (get_or start.args.starts.now (t start) 0 + 4 * (get_or (ths start) (t start) nobody).place)))
-      × RegistersGood c.instruction-at.result
+  read : (c.instruction_at-i.result
+      ≡ decoded_instruction (decode_at c.args.l.locks c.args.l.variables c.args.s.now (get_or c.args.starts.now t 0 + 4 * (get_or (threads_in ps rs) t nobody).place)))
+      × RegistersGood c.instruction_at-i.result
   read =
-      rw (place start)
-      (c.instruction-at.ensures start.args.l.locks start.args.l.variables ((located start).valid (get_or start.args.places.now (t start) 0) (at_instruction c.before.before)))
+      let below : get_or ps t 0 < get_or c.args.counts.now t 0 = omega (arith, in_code ps rs t c.requires.1 c.requires.3 c.requires.2, c.if-place-counts.false) in
+      rw there
+      (c.instruction_at-i.ensures c.args.l.locks c.args.l.variables ((c.requires.1.located t c.requires.2).valid (get_or ps t 0) below))
 
 -- `return Outcome::Idle`
 pub returns-then-place-counts : goal.returns-then-place-counts
 returns-then-place-counts c =
-    let b = ((goal.at.returns-then-place-counts c).After-shared_slice_known-2-1) in
-    let x = step_idle b.requires.1 b.requires.3 (t b) b.requires.2 (place b ∙ c.if-place-counts.true) in
-    (x.0, (x.1, b.requires.3))
+    let r = c.requires in
+    let x = step_idle r.1 r.3 c.args.t r.2 (place c.args.places.now c.args.registers.now c.args.t r.1 r.3 r.2 ∙ c.if-place-counts.true) in
+    record { value = x.0; registers_after = x.1; kept = r.3 }
 
+-- `let i = instruction_at(rows, s, starts[at] + INSTRUCTION_SIZE * place)`
 pub overflow_mul-place : goal.overflow_mul-place
-overflow_mul-place c = let b = ((goal.at.overflow_mul-place c).After-way_told-1) in omega (arith, in_code b, (located b).short)
+overflow_mul-place c =
+    let r = c.requires in
+    omega (arith, in_code c.args.places.now c.args.registers.now c.args.t r.1 r.3 r.2, (r.1.located c.args.t r.2).short)
 
 pub overflow_add-starts : goal.overflow_add-starts
 overflow_add-starts c =
-    let b = ((goal.at.overflow_add-starts c).After-way_told-1) in
-    omega (arith, in_code b, (located b).inside, b.well_formed.0.0)
+    let r = c.requires in
+    omega (arith, in_code c.args.places.now c.args.registers.now c.args.t r.1 r.3 r.2, (r.1.located c.args.t r.2).inside)
 
 pub instruction_at-i-requires : goal.instruction_at-i-requires
 instruction_at-i-requires c =
-    let b = ((goal.at.instruction_at-i-requires c).After-way_told-1) in
-    (b.requires.0, omega (arith, at_instruction ((goal.at.instruction_at-i-requires c).After-way_told-3-1), (located b).inside))
+    let r = c.requires in (
+      r.0,
+      omega (arith, in_code c.args.places.now c.args.registers.now c.args.t r.1 r.3 r.2, c.if-place-counts.false, (r.1.located c.args.t r.2).inside),
+    )
 
 -- `move_by(i, t, variables, locks, places, registers)`
 pub move_by-requires : goal.move_by-requires
 move_by-requires c =
     let o = ((goal.at.move_by-requires c).After-instruction_at-i) in
-    let b = start o in
-    (((read o).1, access_below_limits b.pre.1 b.pre.3 (t b) b.pre.2 (not_at_end o) (read o).0), small b, b.pre.3.threads, omega (arith, in_code b, (located b).short))
+    let r = c.requires in
+    let e = in_code (ps o) (rs o) (t o) r.1 r.3 r.2 in (
+      ((read o).1, access_below_limits r.1 r.3 (t o) r.2 (not_at_end o) (read o).0),
+      small (ps o) (rs o) (t o) r.1 r.3 r.2,
+      r.3.threads,
+      omega (arith, e, (r.1.located (t o) r.2).short),
+    )
 
 pub returns : goal.returns
 returns c =
     let o = ((goal.at.returns c).After-instruction_at-i) in
-    let b = start o in
+    let r = c.requires in
     let e = c.move_by.ensures in
-    let registers = ap (λ (th : Thread). th.registers) (thread b) in
-    let x = stepped b.pre.1 b.pre.3 (t b) b.pre.2 (not_at_end o) (read o).0 e.0 (rw (← registers) at e.1.0) e.1.1.0 e.1.1.1 in
-    (x.0, (x.1, x.2))
+    let registers = ap (λ (th : Thread). th.registers) (thread (ps o) (rs o) (t o) r.1 r.3 r.2) in
+    let x = stepped r.1 r.3 (t o) r.2 (not_at_end o) (read o).0 e.value (rw (← registers) at e.variables_after) e.locks_after e.registers_after in
+    record { value = x.0; registers_after = x.1; kept = x.2 }

@@ -2,14 +2,13 @@
 use Rattle.std.proofs.Common.{◌+◌, ◌*◌, ◌∙◌, length-take-le}
 use Rattle.machine.specs.Internal.Kept.{state_in, threads_in}
 use Rattle.machine.proofs.StateBytes.{write_state, length-first_words}
-use Rattle.machine.proofs.state_bytes.write_state.Goals.{Start}
 use Rattle.machine.proofs.state_bytes.write_state.Goals as goal
 
 pub returns : goal.returns
 returns c =
-    let b = ((goal.at.returns c).Start) in
-    let a = b.args in
+    let a = c.args in
+    let within = c.requires.variables_in_bounds in
     c.write_threads.ensures
     ∙ rw (c.write_bytes.ensures, c.write_words.ensures)
     (write_state a.out.now (state_in a.l a.variables.now a.locks.now (threads_in a.places.now a.registers.now)) (4 * a.l.variables) (4 * a.l.variables + a.l.locks)
-    (length-first_words a.variables.now a.l.variables b.requires.1.0) (rw (length-take-le a.l.locks a.locks.now b.requires.1.1)))
+    (length-first_words a.variables.now a.l.variables within.0) (rw (length-take-le a.l.locks a.locks.now within.1)))

@@ -16,7 +16,7 @@ loop-i-preserved c =
     let a = c.args in
     let w = c.write_word in (
       omega arith,
-      w.auto.0 ∙ o.invariant.1,
+      w.auto.out ∙ o.invariant.1,
       w.ensures
           ∙ rw o.invariant.2 (write_each word_bytes 4 a.out.now a.at a.words.now o.i 0 (omega arith) (length-first_words a.words.now o.i (omega arith))),
     )
