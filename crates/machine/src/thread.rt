@@ -79,8 +79,7 @@ pub fn move_thread(th: &mut Thread, m: Move, value: u32)
     *th = thread_after(m, value, *th);
 }
 
-// The same for who has no record to lend: a copy is lent, and handed back. The prover's own walk covers no reference to a record, so
-// that whoever makes one is proved by hand, and this one is.
+// The same for who has no record to lend: a copy is lent, and handed back.
 pub fn moved_thread(th: Thread, m: Move, value: u32) -> Thread
     requires { Doing m th × (th.place ≤ largest_place) }
     ensures { MovedBy m value th result }

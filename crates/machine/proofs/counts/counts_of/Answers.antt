@@ -1,14 +1,9 @@
 -- `counts_of` meets its contract: the counts of the threads before t are there. Assumes nothing.
-use Rattle.std.proofs.Common.{◌≡◌, ℕ, ◌-◌, ◌<◌, List, get_or, ◌∙◌, arith, length-set, get_or-set_other, get_or-set_same, rules}
+use Rattle.std.proofs.Common.{◌∙◌, arith, length-set, get_or-set_other, get_or-set_same}
 use native.Mathlib.Decide.{ℕ_discrete}
 use Rattle.machine.specs.Run.{uncounted, counts_of}
-use Rattle.machine.specs.Internal.Tally.{tallied, Tally}
-use Rattle.machine.specs.declared.counts.Counts.{Counts}
-use Rattle.std.proofs.Common.{rules}
+use Rattle.machine.specs.Internal.Tally.{Tally}
 use Rattle.machine.proofs.counts.counts_of.Goals as goal
-
-pub loop-t-init : goal.loop-t-init
-loop-t-init c = (omega arith, search rules, λ u h. absurd (let z : ⊥ = omega arith in z))
 
 pub thread_counts-requires : goal.thread_counts-requires
 unfolding Tally
@@ -27,6 +22,3 @@ loop-t-preserved c =
         | no other ↦ get_or-set_other o.all o.t u _ uncounted other ∙ o.invariant.2 u (omega (arith, other))
       ],
     )
-
-pub returns : goal.returns
-returns c t h = c.loop-t.invariant.2 t (omega (arith, c.loop-t-test.false))

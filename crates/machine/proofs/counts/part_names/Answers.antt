@@ -1,5 +1,5 @@
 -- `part_names` meets its contract: so far the entries before i are counted. Assumes nothing.
-use Rattle.std.proofs.Common.{◌-◌, eqb, get_or, refl, ap, ◌∙◌, arith, take_all}
+use Rattle.std.proofs.Common.{eqb, get_or, refl, arith}
 use Rattle.machine.specs.Run.{times_named}
 use Rattle.machine.proofs.Names.{names_next, one_at_most}
 use Rattle.machine.proofs.counts.part_names.Goals as goal
@@ -8,13 +8,6 @@ pub loop-i-init : goal.loop-i-init
 unfolding times_named
 loop-i-init c = (omega arith, omega arith, refl)
 
--- `n += names(part[i], t)`
-pub overflow_add-n : goal.overflow_add-n
-overflow_add-n c =
-    let a = c.args in
-    let h = one_at_most (eqb (get_or a.part.now c.loop-i.i 0) a.t) in
-    omega (arith, h, c.names-n.ensures, c.loop-i.invariant.1)
-
 pub loop-i-preserved : goal.loop-i-preserved
 loop-i-preserved c =
     let o = c.loop-i in
@@ -22,8 +15,3 @@ loop-i-preserved c =
     let e = names_next a.t a.part.now o.i c.loop-i-test.true in
     let h = one_at_most (eqb (get_or a.part.now o.i 0) a.t) in
     (omega arith, omega (arith, h, c.names-n.ensures, o.invariant.1), omega (arith, e, o.invariant.2, c.names-n.ensures))
-
-pub returns : goal.returns
-returns c =
-    let o = c.loop-i in
-    o.invariant.2 ∙ ap (times_named c.args.t) (take_all o.i c.args.part.now (omega arith))

@@ -6,6 +6,3 @@ use Rattle.machine.proofs.counts.thread_counts.Goals as goal
 -- `let left = idle_of(list, t, moved + waiting as usize, ended)`
 pub overflow_add-moved : goal.overflow_add-moved
 overflow_add-moved c = let a = c.args in omega (arith, c.requires.1.0, names_at_most a.t a.list.now)
-
-pub returns : goal.returns
-returns c = rw c.idle_of-left.ensures

@@ -1,7 +1,7 @@
 -- `times_named` meets its contract: so far the entries before i are counted, a part at a time. Assumes nothing.
-use Rattle.std.proofs.Common.{◌≡◌, ℕ, ◌+◌, ◌-◌, List, length, take, drop, refl, arith}
+use Rattle.std.proofs.Common.{◌≡◌, ℕ, ◌+◌, ◌-◌, List, take, drop, refl, arith}
 use Rattle.machine.specs.Run.{times_named}
-use Rattle.machine.proofs.Names.{names_part, names_rest, names_at_most, names_first, part_short}
+use Rattle.machine.proofs.Names.{names_part, names_rest, names_at_most, names_first}
 use Rattle.machine.proofs.counts.times_named.Goals as goal
 
 pub loop-i-init : goal.loop-i-init
@@ -16,11 +16,6 @@ one_part t i n named list e f =
     let r : named ≡ times_named t (take 192 (drop i list)) = rw g at f in
     omega (arith, names_part t i 192 list, e, r)
 
-pub part_names-requires : goal.part_names-requires
-part_names-requires c =
-    let i = c.loop-i.i in
-    omega (arith, part_short i (i + 192 - i) c.args.list.now)
-
 pub overflow_add-n : goal.overflow_add-n
 overflow_add-n c =
     let o = c.loop-i in
@@ -31,12 +26,6 @@ pub loop-i-preserved : goal.loop-i-preserved
 loop-i-preserved c =
     let o = c.loop-i in
     (omega arith, one_part c.args.t o.i o.n _ c.args.list.now o.invariant.1 c.part_names.ensures)
-
-pub part_names-requires-2 : goal.part_names-requires-2
-part_names-requires-2 c =
-    let l = c.args.list.now in
-    let i = c.loop-i.i in
-    omega (arith, part_short i (length l - i) l)
 
 -- the whole list
 pub overflow_add-result : goal.overflow_add-result

@@ -1,12 +1,9 @@
 -- `initial_values` meets its contract. The invariant: the first i variables have their initial values. Assumes nothing.
-use Rattle.std.proofs.Common.{◌≡◌, ◌-◌, ◌∙◌, arith, length-set, take_all}
+use Rattle.std.proofs.Common.{◌≡◌, ◌∙◌, arith, length-set, take_all}
 use Rattle.program.specs.Layout.{program_of}
 use Rattle.machine.specs.State.{start}
 use Rattle.machine.proofs.Start.{length-initial, initial_next}
 use Rattle.machine.proofs.prepare.initial_values.Goals as goal
-
-pub initial_at-requires : goal.initial_at-requires
-initial_at-requires c = omega (arith, c.requires.0.section, c.loop-i-test.true)
 
 pub loop-i-preserved : goal.loop-i-preserved
 loop-i-preserved c =

@@ -10,7 +10,6 @@ use Rattle.machine.specs.Internal.Kept.{threads_in, from_here, nobody, Ended}
 use Rattle.machine.specs.declared.thread.Thread.{Thread}
 use Rattle.machine.proofs.Between.{Between, Whole, between_start, between_next, between_end, whole_tally, whole_counts}
 use Rattle.machine.proofs.Threads.{threads_at}
-use Rattle.std.proofs.Common.{rules}
 use Rattle.machine.proofs.run.entries.Goals.{After-loop-i, After-part_entries}
 use Rattle.machine.proofs.run.entries.Goals as goal
 
@@ -63,14 +62,6 @@ module _ (c : After-part_entries) where
 pub loop-i-init : goal.loop-i-init
 loop-i-init c = (omega arith, omega arith, λ h. absurd (let z : ⊥ = omega arith in z), between_start _ _ c.requires.4)
 
--- `let e = part_end(i, list.len())`
-pub part_end-e-requires : goal.part_end-e-requires
-part_end-e-requires c = omega (arith, c.loop-i-test.true, c.loop-i.invariant.1)
-
--- `part_entries(`
-pub slice_bounds-part_entries-count : goal.slice_bounds-part_entries-count
-slice_bounds-part_entries-count c = omega (arith, c.part_end-e.ensures.0)
-
 pub part_entries-requires : goal.part_entries-requires
 part_entries-requires c =
     let o = c.loop-i in
@@ -85,17 +76,10 @@ part_entries-requires c =
       omega (arith, long, p.ensures.0, p.ensures.1, c.requires.3),
     )
 
--- `stop = i`
-pub loop-i-smaller-then-all_ended : goal.loop-i-smaller-then-all_ended
-loop-i-smaller-then-all_ended c = let s = ((goal.at.loop-i-smaller-then-all_ended c).After-part_entries) in omega (arith, before_stop s, (forward s).0)
-
 pub loop-i-preserved-then-all_ended : goal.loop-i-preserved-then-all_ended
 loop-i-preserved-then-all_ended c =
     let s = ((goal.at.loop-i-preserved-then-all_ended c).After-part_entries) in
     (omega arith, (forward s).1, λ h. (refl, c.all_ended.ensures c.if-all_ended.true), past s)
-
-pub loop-i-smaller : goal.loop-i-smaller
-loop-i-smaller c = let s = ((goal.at.loop-i-smaller c).After-part_entries) in omega (arith, before_stop s, (forward s).0)
 
 pub loop-i-preserved : goal.loop-i-preserved
 loop-i-preserved c =

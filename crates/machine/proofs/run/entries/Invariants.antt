@@ -1,4 +1,5 @@
 -- `entries` meets its contract. The loop's invariant: running the entries that are left from what is kept is running the whole list, and
+-- the loop stops before the list's end only where every thread is at its end.
 use Rattle.std.proofs.Common.{◌≡◌, ◌-◌, ◌<◌, ◌≤◌, length}
 use Rattle.machine.specs.Internal.Kept.{threads_in, Ended}
 use Rattle.machine.proofs.Between.{Between}

@@ -1,5 +1,5 @@
 -- `move_by` meets its contract, Move by Move. Assumes nothing.
-use Rattle.std.proofs.Common.{◌≡◌, ℕ, ◌<◌, false, List, [], length, get_or, refl, ◌∙◌, inl, inr, arith, eq-eqb, ne_eqb}
+use Rattle.std.proofs.Common.{◌≡◌, ℕ, ◌<◌, false, List, [], length, get_or, refl, ◌∙◌, arith, eq-eqb, ne_eqb}
 use Rattle.program.specs.View.{Access, access_of}
 use Rattle.program.specs.declared.instruction.Instruction.{Instruction}
 use Rattle.machine.specs.Step.{waits, value_read, variables_after, locks_after}

@@ -1,12 +1,12 @@
 -- `part_entries` meets its contract. The loop's invariant: running the entries that are left from what is kept is running the whole part.
 -- Assumes nothing.
-use Rattle.std.proofs.Common.{◌≡◌, ℕ, ◌+◌, ◌-◌, ◌<◌, ◌≤◌, List, length, get_or, sym, ◌∙◌, arith}
+use Rattle.std.proofs.Common.{◌≡◌, ℕ, ◌+◌, ◌<◌, ◌≤◌, List, length, get_or, sym, ◌∙◌, arith}
 use Rattle.program.specs.Limits.{thread_limit}
 use Rattle.machine.specs.Run.{Entries}
 use Rattle.machine.specs.Internal.Kept.{state_in, threads_in}
 use Rattle.machine.specs.Internal.Tally.{AtMost}
 use Rattle.machine.specs.declared.thread.Outcome.{Outcome}
-use Rattle.machine.proofs.Between.{InPart, moved_after, waiting_after, part_start, part_next, part_end}
+use Rattle.machine.proofs.Between.{InPart, moved_after, waiting_after, part_next, part_end}
 use Rattle.machine.proofs.run.part_entries.Goals.{After-step}
 use Rattle.machine.proofs.run.part_entries.Goals as goal
 
@@ -45,22 +45,11 @@ module _ (c : After-step) where
       let does = c.step.ensures in
       part_next c.loop-i.invariant.1 before_end small (sym e ∙ does.value) does.registers_after does.kept
 
-pub loop-i-init : goal.loop-i-init
-loop-i-init c = (omega arith, part_start _ _ _ _ _ c.requires.3 c.requires.4)
-
--- `let at = t as usize`
-pub overflow_cast-at : goal.overflow_cast-at
-overflow_cast-at c =
-    omega (arith, entry_small c.args.list.now c.args.l.threads c.loop-i.i c.requires.2 c.loop-i-test.true c.requires.1.sound.threads)
-
 -- `match step(`
 pub step-requires : goal.step-requires
 unfolding Entries
 step-requires c =
     (c.requires.0, c.requires.1, c.requires.2 c.loop-i.i c.loop-i-test.true, c.loop-i.invariant.1.kept)
-
-pub offset_bounds-moved-at : goal.offset_bounds-moved-at
-offset_bounds-moved-at c = omega (arith, small ((goal.at.offset_bounds-moved-at c).After-step))
 
 pub bounds-moved-at : goal.bounds-moved-at
 bounds-moved-at c = small ((goal.at.bounds-moved-at c).After-step)
@@ -71,14 +60,8 @@ overflow_add-moved c = let s = ((goal.at.overflow_add-moved c).After-step) in om
 pub bounds-moved-at-in-Moved : goal.bounds-moved-at-in-Moved
 bounds-moved-at-in-Moved c = small ((goal.at.bounds-moved-at-in-Moved c).After-step)
 
-pub loop-i-smaller-in-Moved : goal.loop-i-smaller-in-Moved
-loop-i-smaller-in-Moved c = omega (arith, before_end ((goal.at.loop-i-smaller-in-Moved c).After-step))
-
 pub loop-i-preserved-in-Moved : goal.loop-i-preserved-in-Moved
 loop-i-preserved-in-Moved c = let s = ((goal.at.loop-i-preserved-in-Moved c).After-step) in (omega (arith, before_end s), past s c.in-Moved.is)
-
-pub offset_bounds-waiting-at : goal.offset_bounds-waiting-at
-offset_bounds-waiting-at c = omega (arith, small ((goal.at.offset_bounds-waiting-at c).After-step))
 
 pub bounds-waiting-at : goal.bounds-waiting-at
 bounds-waiting-at c = small ((goal.at.bounds-waiting-at c).After-step)
@@ -89,14 +72,8 @@ overflow_add-waiting c = let s = ((goal.at.overflow_add-waiting c).After-step) i
 pub bounds-waiting-at-in-Waiting : goal.bounds-waiting-at-in-Waiting
 bounds-waiting-at-in-Waiting c = small ((goal.at.bounds-waiting-at-in-Waiting c).After-step)
 
-pub loop-i-smaller-in-Waiting : goal.loop-i-smaller-in-Waiting
-loop-i-smaller-in-Waiting c = omega (arith, before_end ((goal.at.loop-i-smaller-in-Waiting c).After-step))
-
 pub loop-i-preserved-in-Waiting : goal.loop-i-preserved-in-Waiting
 loop-i-preserved-in-Waiting c = let s = ((goal.at.loop-i-preserved-in-Waiting c).After-step) in (omega (arith, before_end s), past s c.in-Waiting.is)
-
-pub loop-i-smaller : goal.loop-i-smaller
-loop-i-smaller c = omega (arith, before_end ((goal.at.loop-i-smaller c).After-step))
 
 pub loop-i-preserved : goal.loop-i-preserved
 loop-i-preserved c = let s = ((goal.at.loop-i-preserved c).After-step) in (omega (arith, before_end s), past s c.in-Idle.is)

