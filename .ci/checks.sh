@@ -1,9 +1,9 @@
 # What the gate looks for in folders and logs, apart from the running. .ci/run sources this file; .ci/test shows that each fault makes the
 # gate fail. A check prints one line for each fault, and nothing where there is none; it ends with 0 unless it could not look.
 
-# The crates that crates.txt lists.
+# The crates that crates.txt lists: the first word of each line.
 listed() {
-    sed -E 's/#.*//; s/[[:space:]]//g' crates.txt | sed -nE 's/^([^:]+):.*/\1/p'
+    sed -nE 's/#.*//; s/^[[:space:]]*([A-Za-z0-9_]+).*/\1/p' crates.txt
 }
 
 # The must-fail edits in the folders, as CRATE/EDIT.
@@ -39,7 +39,7 @@ gone_crates() {
     done
 }
 
-# Every crate has must-fail edits, and nothing else beside them: rt passes over what is not named NAME.edit.
+# Every crate has must-fail edits, and nothing else beside them: what is not named NAME.edit rt tries as no edit.
 edit_folders() {
     local crate file
     for crate in $(listed); do
@@ -54,14 +54,14 @@ edit_folders() {
     done
 }
 
-# A function's proof quotes the line or arm of src/ that each need answers: the line has to stand there.
+# A function's proof quotes the line or arm of src/ that each goal stands at: the line has to stand there.
 quotations() {
     local crate line
     for crate in crates/*/; do
         [ -d "$crate/proofs" ] || continue
         while IFS= read -r line; do
             grep -rqF -- "${line% ..}" "$crate/src" || echo "a proof of $crate quotes what its src/ does not have: $line"
-        done < <(grep -rhE '^-- (back to the loop from )?`.*`$' "$crate/proofs" --include=Proof.antt | sed -E 's/^[^`]*`(.*)`$/\1/' | sort -u)
+        done < <(grep -rhE '^ *-- (back to the loop from )?`.*`$' "$crate/proofs" --include={Proof,Answers,Invariants}.antt | sed -E 's/^[^`]*`(.*)`$/\1/' | sort -u)
     done
 }
 
@@ -92,22 +92,50 @@ count_faults() { # WHAT LOG STATUS
 
 # ---- the log of rt ci
 
-# Each crate was proved in this run, each program run, each edit tried, and where nothing failed rt counted just these.
+# The line that says what rt ci did. It prints none where something failed.
+ok_line() { # LOG
+    grep -E '^rt: ok; ' "$1" | tail -n 1
+}
+
+# Each crate is proved or kept, each program ran as both compilers build it, each crate's tests passed, each edit was tried, and rt counted just these.
 rattle_faults() { # LOG
     local crate edit wanted
     for crate in $(listed); do
-        grep -qE "^rt: $crate proved \([0-9]+ s\)$" "$1" || echo "rt ci did not prove $crate"
-        [ ! -f "crates/$crate/src/main.rt" ] || grep -qE "^rt: $crate ran( as nobody)?, " "$1" || echo "rt ci did not run $crate"
+        grep -qE "^rt: $crate (proved|is kept: .*)$" "$1" || echo "rt ci did not prove $crate"
+        if [ -f "crates/$crate/src/main.rt" ]; then
+            grep -qE "^rt: $crate ran, " "$1" || echo "rt ci did not run $crate"
+            grep -qE "^rt: $crate ran \(built by Rattle's own compiler\), " "$1" || echo "rt ci did not run $crate as Rattle's own compiler builds it"
+        fi
+        ! grep -rqF '#[test]' "crates/$crate/src" || grep -qxF "rt: $crate: its tests passed" "$1" || echo "rt ci did not run the tests of $crate"
     done
     for edit in $(edits); do
-        grep -qF "rt: must-fail $edit: " "$1" || echo "rt ci did not try the must-fail edit $edit"
+        grep -qF "rt: must-fail $edit.edit: " "$1" || echo "rt ci did not try the must-fail edit $edit"
     done
     wanted=$(($(listed | wc -l) + $(edits | wc -l)))
     if [ "$(failed_of "$1")" = 0 ] && [ "$(passed_of "$1")" != "$wanted" ]; then
         echo "rt ci: $(passed_of "$1") passed, where crates and edits are $wanted"
     fi
+    edit_faults "$1"
+}
+
+# An edit that cannot be applied or read is bad: it shows nothing, and rt ci passes all the same.
+edit_faults() { # LOG
+    local ok bad
+    ok=$(ok_line "$1")
+    if [ -z "$ok" ]; then
+        echo "rt ci printed no line 'rt: ok'"
+    else
+        bad=$(sed -nE 's/.*; must-fail edits: [^;]*, ([0-9]+) bad(;.*)?$/\1/p' <<<"$ok")
+        [ "${bad:-0}" -eq 0 ] || echo "rt ci: $bad bad must-fail edits"
+    fi
+    sed -nE 's/^rt: (.*: BAD EDIT: .*)/a bad edit: \1/p' "$1"
     # A definition states no fact, so an edit that is refused in specs/ is refused for its own words and shows nothing.
-    sed -nE 's/^rt: must-fail .*\(first at specs\/.*/an edit that does not fit the definitions: &/p' "$1"
+    sed -nE 's/^rt: must-fail .*: refused, as it must be: (note: )?(\.\/)?specs\/.*/an edit that does not fit the definitions: &/p' "$1"
+}
+
+# Notes, and no faults: the edits whose refusal says less of a contract, as rt puts it.
+weak_edits() { # LOG
+    sed -nE 's/^rt: must-fail (.*)\.edit: refused, as it must be \((only [^,]*),.*/note: the must-fail edit \1 is refused \2/p' "$1"
 }
 
 # ---- the log of cargo test

@@ -10,7 +10,7 @@ fn main() {
     println!("cargo:rerun-if-changed={}", archive.display());
     if !archive.is_file() {
         panic!(
-            "there is no {}: run `rt staticlib hogunlas` at the repository's root, or set \
+            "there is no {}: run `bash .ci/build` at the repository's root, or set \
              HOGUNLAS_LIB_DIR to the folder that holds libhogunlas.a",
             archive.display()
         );
@@ -21,7 +21,7 @@ fn main() {
     println!("cargo:rustc-env=HOGUNLAS_ARCHIVE={}", archive.display());
 }
 
-/// Where the archive is: `HOGUNLAS_LIB_DIR`, or where `rt staticlib` writes it.
+/// Where the archive is: `HOGUNLAS_LIB_DIR`, or where `.ci/build` writes it.
 fn library_directory() -> PathBuf {
     let manifest = env::var_os("CARGO_MANIFEST_DIR").expect("cargo sets CARGO_MANIFEST_DIR");
     match env::var_os("HOGUNLAS_LIB_DIR") {

@@ -2,8 +2,8 @@
  * Hogunlas: judge a station program, run it step by step, print it line by line. What the calls
  * answer is fixed by the standard, docs/STANDARD.md.
  *
- * The calls are those of libhogunlas.a, which `rt staticlib hogunlas` makes of proved code. They
- * keep nothing between calls, ask for no memory, and may be made from several threads at once.
+ * The calls are those of libhogunlas.a, which `.ci/build` makes of proved code. They keep nothing
+ * between calls, ask for no memory, and may be made from several threads at once.
  *
  * The file. Every call takes the whole file as bytes, and any bytes whatever: what is no accepted
  * file is refused.

@@ -5,7 +5,7 @@
 //! caller lends; the bytes past the answer are kept, and after a refusal all bytes are. Any bytes
 //! whatever may be passed: a call answers or refuses, and nothing else.
 //!
-//! The work is done by `libhogunlas.a`, which `rt staticlib hogunlas` makes of proved code. What
+//! The work is done by `libhogunlas.a`, which `.ci/build` makes of proved code. What
 //! is trusted here beside it is the module `ffi`: that the declarations are those of the archive.
 //!
 //! # A table of threads

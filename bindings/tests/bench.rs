@@ -24,7 +24,7 @@ use hogunlas_reference::standard::{examples, Page};
 /// How much bench reads at most.
 const INPUT: usize = MAX_FILE + 1;
 
-/// The program: `HOGUNLAS_BENCH`, or what `rt check` leaves.
+/// The program: `HOGUNLAS_BENCH`, or what `.ci/build` leaves.
 fn program() -> PathBuf {
     let program = match env::var_os("HOGUNLAS_BENCH") {
         Some(program) => PathBuf::from(program),
@@ -32,7 +32,7 @@ fn program() -> PathBuf {
     };
     assert!(
         program.is_file(),
-        "there is no {}: run `rt check bench` at the repository's root, or set HOGUNLAS_BENCH",
+        "there is no {}: run `bash .ci/build` at the repository's root, or set HOGUNLAS_BENCH",
         program.display()
     );
     program

@@ -15,7 +15,7 @@ const REFERENCE_BENCH: &str = "reference-bench";
 
 const TURNS: usize = 200;
 
-/// The verified program: `HOGUNLAS_BENCH`, or what `rt check` leaves, if it is there.
+/// The verified program: `HOGUNLAS_BENCH`, or what `.ci/build` leaves, if it is there.
 pub fn verified() -> Option<PathBuf> {
     let program = match env::var_os("HOGUNLAS_BENCH") {
         Some(program) => PathBuf::from(program),
