@@ -18,16 +18,17 @@ returns-then-count-i c =
     let found = as_accepted _ _ _ _ _ _ c.in-Done.is c.judge_file-judging.ensures in
     let counted = c.line_count-count.ensures in
     let past : c.line_count-count.result ≤ c.args.i = c.if-count-i.true in
-    rw (← counted) at
-    (line_number c.args.file.now c.args.i c.args.out.now c.in-Done.l found.accepted.report (opened_by found) (rw counted at past))
+    let a = line_number c.args.file.now c.args.i c.args.out.now c.in-Done.l found.accepted.report (opened_by found) (rw counted at past) in
+    record { result = rw counted a.0; buffer = a.1 }
 
 -- `return Printed::Refused(Refusal::ShortBuffer(LINE_SIZE))`
 pub returns-then-out-lt-LINE_SIZE : goal.returns-then-out-lt-LINE_SIZE
 returns-then-out-lt-LINE_SIZE c =
     let found = as_accepted _ _ _ _ _ _ c.in-Done.is c.judge_file-judging.ensures in
     let counted = c.line_count-count.ensures in
-    line_short c.args.file.now c.args.i c.args.out.now c.in-Done.l found.accepted.report (opened_by found)
-    (rw counted at c.if-count-i.false) c.if-out-lt-LINE_SIZE.true
+    let a = line_short c.args.file.now c.args.i c.args.out.now c.in-Done.l found.accepted.report (opened_by found)
+    (rw counted at c.if-count-i.false) c.if-out-lt-LINE_SIZE.true in
+    record { result = a.0; buffer = a.1 }
 
 pub write_line-requires : goal.write_line-requires
 write_line-requires c =
@@ -41,11 +42,13 @@ write_line-requires c =
 
 pub returns-in-Refused : goal.returns-in-Refused
 returns-in-Refused c =
-    line_refused c.args.file.now c.args.i c.args.out.now _ (as_refused _ _ _ _ _ _ c.in-Refused.is c.judge_file-judging.ensures)
+    let a = line_refused c.args.file.now c.args.i c.args.out.now _ (as_refused _ _ _ _ _ _ c.in-Refused.is c.judge_file-judging.ensures) in
+    record { result = a.0; buffer = a.1 }
 
 pub returns-else-out-lt-LINE_SIZE : goal.returns-else-out-lt-LINE_SIZE
 returns-else-out-lt-LINE_SIZE c =
     let found = as_accepted _ _ _ _ _ _ c.in-Done.is c.judge_file-judging.ensures in
-    line_done c.args.file.now c.args.i c.args.out.now c.in-Done.l found.accepted.report (opened_by found)
+    let a = line_done c.args.file.now c.args.i c.args.out.now c.in-Done.l found.accepted.report (opened_by found)
     (rw c.line_count-count.ensures at c.if-count-i.false) c.if-out-lt-LINE_SIZE.false _ (omega (arith, found.counted, found.size))
-    _ c.write_line.result (rw found.bytes at c.write_line.ensures)
+    _ c.write_line.result (rw found.bytes at c.write_line.ensures) in
+    record { result = a.0; buffer = a.1 }

@@ -15,9 +15,9 @@ pub returns-in-Refused : goal.returns-in-Refused
 returns-in-Refused c =
     let answered = run_refused c.args.file.now c.args.list.now c.args.out.now _
     (as_refused _ _ _ _ _ _ c.in-Refused.is c.judge_file-judging.ensures) in
-    (c.run_refused.ensures ∙ answered.0, (answered.1, demand3 c.args.file.now))
+    record { result = c.run_refused.ensures ∙ answered.0; buffer = answered.1; demand = demand3 c.args.file.now }
 
 pub returns-in-Done : goal.returns-in-Done
 returns-in-Done c =
     let ran = c.run_accepted in
-    (ran.ensures.0, (ran.ensures.1, demand3 c.args.file.now))
+    record { result = ran.ensures.result; buffer = ran.ensures.buffer; demand = demand3 c.args.file.now }

@@ -1,5 +1,5 @@
 -- `all_below`: the numbers so far are below the limit if none was found that is not. Assumes nothing.
-use Prim.Native.Nat.{ℕ, ◌+◌, ◌-◌, ◌<◌}
+use Prim.Native.Nat.{ℕ, ◌+◌}
 use mathlib.Core.Path.{◌≡◌}
 use mathlib.Core.Bool.{Bool, true, ◌&&◌, and-eq-true_iff}
 use mathlib.Core.List.{List}
@@ -9,11 +9,8 @@ use borrow.Author.Tests.{ltb-true}
 use lib.Dec.{ltb}
 use lib.ListN.{get_or}
 use Rattle.machine.specs.Run.{Entries}
+use Rattle.hogunlas.proofs.list.all_below.Invariants.{BelowTo}
 use Rattle.hogunlas.proofs.list.all_below.Goals as goal
-
--- those before index i
-abbrev BelowTo : List ℕ → ℕ → ℕ → Type 0
-BelowTo list limit i = (j : ℕ) → j < i → get_or list j 0 < limit
 
 one_more : (list : List ℕ) (limit i : ℕ) (good : Bool) → (good ≡ true → BelowTo list limit i) → (good && ltb (get_or list i 0) limit) ≡ true
     → BelowTo list limit (i + 1)
