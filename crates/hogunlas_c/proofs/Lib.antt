@@ -1,0 +1,3 @@
+-- Theorems over the definitions that belong to no one function.
+--     Numbers   a refusal as C gets it
+pub mod Numbers
