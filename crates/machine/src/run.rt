@@ -76,7 +76,7 @@ fn move_by(
     ensures variables_after { variables.new
         ≡ after result variables.old (variables_after (access_of i) (slice_index_or registers.old t []) variables.old) }
     ensures locks_after { locks.new ≡ after result locks.old (locks_after (access_of i) t locks.old) }
-    ensures registers_after { threads_in places.new registers.new
+    ensures threads_after { threads_in places.new registers.new
         ≡ after result (threads_in places.old registers.old)
         (move_thread i variables.old t (threads_in places.old registers.old)) }
 {
@@ -119,7 +119,7 @@ fn step(
         × Kept l counts.now variables.old locks.old (threads_in places.old registers.old) }
     ensures value { result ≡ outcome (program_of s.now l) t
         (state_in l variables.old locks.old (threads_in places.old registers.old)) }
-    ensures registers_after { state_in l variables.new locks.new (threads_in places.new registers.new)
+    ensures state_after { state_in l variables.new locks.new (threads_in places.new registers.new)
         ≡ Step.step (program_of s.now l) t
         (state_in l variables.old locks.old (threads_in places.old registers.old)) }
     ensures kept { Kept l counts.now variables.new locks.new (threads_in places.new registers.new) }
@@ -218,7 +218,7 @@ fn entries(
 ) -> [Counts; THREAD_LIMIT]
     requires { (rows.now ≡ row_table) × SectionTable s.now l starts.now counts.now × Entries l.threads list.now
         × (length list.now ≤ list_limit) × Kept l counts.now variables.old locks.old (threads_in places.old registers.old) }
-    ensures list_value { run_from (program_of s.now l)
+    ensures whole_run { run_from (program_of s.now l)
         (from_here l variables.old locks.old (threads_in places.old registers.old)) list.now
         ≡ record { counts = result; state = state_in l variables.new locks.new (threads_in places.new registers.new) } }
     ensures kept { Kept l counts.now variables.new locks.new (threads_in places.new registers.new) }

@@ -97,8 +97,8 @@ pub fn write_state(
     places: &[usize; THREAD_LIMIT],
     registers: &[[u32; REGISTER_COUNT]; THREAD_LIMIT],
 )
-    requires threads_in_bounds { size_of_state l.variables l.locks l.threads ≤ length out.old }
-    requires variables_in_bounds { (l.variables ≤ length variables.now) × (l.locks ≤ length locks.now) × (l.threads ≤ thread_limit)
+    requires room { size_of_state l.variables l.locks l.threads ≤ length out.old }
+    requires in_bounds { (l.variables ≤ length variables.now) × (l.locks ≤ length locks.now) × (l.threads ≤ thread_limit)
         × (length (threads_in places.now registers.now) ≡ thread_limit) × EightRegisters (threads_in places.now registers.now) }
     ensures { out.new ≡ sets out.old 0
         (state_bytes (state_in l variables.now locks.now (threads_in places.now registers.now))) }

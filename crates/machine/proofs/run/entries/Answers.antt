@@ -114,4 +114,4 @@ counts_of-requires c = let l = ((goal.at.counts_of-requires c).After-loop-i) in 
 pub returns : goal.returns
 returns c =
     let l = ((goal.at.returns c).After-loop-i) in
-    record { list_value = whole_counts (whole l) c.counts_of.result (search rules) c.counts_of.ensures; kept = l.loop-i.invariant.3.kept }
+    record { whole_run = whole_counts (whole l) c.counts_of.result (search rules) c.counts_of.ensures; kept = l.loop-i.invariant.3.kept }

@@ -35,7 +35,7 @@ returns-then-locks-n-ne0 c = record {
   value = rw ((does ((goal.at.returns-then-locks-n-ne0 c).After-move_of-m) c.in-Takes.is).0.access, ne_eqb _ 0 c.if-locks-n-ne0.true);
   variables_after = refl;
   locks_after = refl;
-  registers_after = refl;
+  threads_after = refl;
 }
 
 pub bounds-locks-n-in-Takes : goal.bounds-locks-n-in-Takes
@@ -116,5 +116,5 @@ returns c =
       value = a.0;
       variables_after = a.1;
       locks_after = a.2;
-      registers_after = th.2 ∙ thread_moved_lem _ _ _ _ _ (ps b) (rs b) _ (counted b) (shared b).0 a.3 th.1;
+      threads_after = th.2 ∙ thread_moved_lem _ _ _ _ _ (ps b) (rs b) _ (counted b) (shared b).0 a.3 th.1;
     }

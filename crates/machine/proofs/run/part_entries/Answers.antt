@@ -43,7 +43,7 @@ module _ (c : After-step) where
       (moved_after o t c.loop-i.moved) (waiting_after o t c.loop-i.waiting) (i + 1)
   past e =
       let does = c.step.ensures in
-      part_next c.loop-i.invariant.1 before_end small (sym e ∙ does.value) does.registers_after does.kept
+      part_next c.loop-i.invariant.1 before_end small (sym e ∙ does.value) does.state_after does.kept
 
 -- `match step(`
 pub step-requires : goal.step-requires

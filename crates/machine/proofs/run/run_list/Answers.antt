@@ -24,8 +24,8 @@ write_state-requires c =
     let f = c.requires.1.sound in
     let k = c.entries-ran.ensures.kept in
     record {
-      threads_in_bounds = omega arith;
-      variables_in_bounds = (omega (arith, k.variables, f.variables), omega (arith, k.locks, f.locks), f.threads, k.threads, k.registers);
+      room = omega arith;
+      in_bounds = (omega (arith, k.variables, f.variables), omega (arith, k.locks, f.locks), f.threads, k.threads, k.registers);
     }
 
 -- what the entries left is the whole list's run
@@ -39,7 +39,7 @@ entries_ran c =
     let a = c.args in
     let v = c.initial_values in
     rw (← start_in a.s.now a.l v.new.variables c.requires.1.sound.locks c.requires.1.sound.threads v.ensures.variables_after)
-    c.entries-ran.ensures.list_value
+    c.entries-ran.ensures.whole_run
 
 pub returns : goal.returns
 returns c =

@@ -57,7 +57,7 @@ pub returns-then-place-counts : goal.returns-then-place-counts
 returns-then-place-counts c =
     let r = c.requires in
     let x = step_idle r.1 r.3 c.args.t r.2 (place c.args.places.now c.args.registers.now c.args.t r.1 r.3 r.2 ∙ c.if-place-counts.true) in
-    record { value = x.0; registers_after = x.1; kept = r.3 }
+    record { value = x.0; state_after = x.1; kept = r.3 }
 
 -- `let i = instruction_at(rows, s, starts[at] + INSTRUCTION_SIZE * place)`
 pub overflow_mul-place : goal.overflow_mul-place
@@ -95,5 +95,5 @@ returns c =
     let r = c.requires in
     let e = c.move_by.ensures in
     let registers = ap (λ (th : Thread). th.registers) (thread (ps o) (rs o) (t o) r.1 r.3 r.2) in
-    let x = stepped r.1 r.3 (t o) r.2 (not_at_end o) (read o).0 e.value (rw (← registers) at e.variables_after) e.locks_after e.registers_after in
-    record { value = x.0; registers_after = x.1; kept = x.2 }
+    let x = stepped r.1 r.3 (t o) r.2 (not_at_end o) (read o).0 e.value (rw (← registers) at e.variables_after) e.locks_after e.threads_after in
+    record { value = x.0; state_after = x.1; kept = x.2 }

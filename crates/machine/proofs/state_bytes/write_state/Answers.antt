@@ -7,7 +7,7 @@ use Rattle.machine.proofs.state_bytes.write_state.Goals as goal
 pub returns : goal.returns
 returns c =
     let a = c.args in
-    let within = c.requires.variables_in_bounds in
+    let within = c.requires.in_bounds in
     c.write_threads.ensures
     ∙ rw (c.write_bytes.ensures, c.write_words.ensures)
     (write_state a.out.now (state_in a.l a.variables.now a.locks.now (threads_in a.places.now a.registers.now)) (4 * a.l.variables) (4 * a.l.variables + a.l.locks)

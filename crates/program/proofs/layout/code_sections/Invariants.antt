@@ -1,4 +1,5 @@
 -- `code_sections`: what is added so far with the sections that are left equals the whole, and the table so far with their marks the whole
+-- table.
 use Prim.Native.Nat.{ℕ, ◌+◌, ◌*◌, ◌-◌, ◌≤◌}
 use mathlib.Core.Path.{◌≡◌}
 use lib.ListN.{length}
