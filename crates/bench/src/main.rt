@@ -4,33 +4,36 @@
 
 mod output;
 
-ghost use Rattle.std.specs.Prelude.{◌≤◌, length, IfOk};
+ghost use Rattle.std.specs.Prelude.{◌≤◌, length};
 
 use crate::output::output;
 use program::limits::{BENCH_LIMIT, OUTPUT_LIMIT};
-use std::io;
 use std::io::Read;
 
-// Reads until the buffer is full or the input ends; answers how many bytes it put at the front of the buffer.
-fn read_full(input: &mut impl Read, buffer: &mut [u8]) -> io::Result<usize>
-    ensures { IfOk result (λ n. n ≤ length buffer.new) }
+// Reads until the buffer is full, the input ends or a read fails; answers how many bytes it put at the front of the buffer.
+fn read_full(input: &mut impl Read, buffer: &mut [u8]) -> usize
+    ensures { result ≤ length buffer.new }
 {
     let mut done = 0;
     while done < buffer.len() {
-        let n = input.read(&mut buffer[done..])?;
+        let n = match input.read(&mut buffer[done..]) {
+            Ok(n) => n,
+            Err(_) => 0,
+        };
         if n == 0 {
             break;
         }
         done += n;
     }
-    Ok(done)
+    done
 }
 
-fn main(rt: HostRuntime) -> io::Result<()> {
+fn main(rt: HostRuntime) {
     // "It reads at most 33,174 bytes; more can't alter the answer."
     let mut input = [0u8; BENCH_LIMIT];
-    let n = read_full(&mut rt.stdin(), &mut input)?;
+    let n = read_full(&mut rt.stdin(), &mut input);
     let mut text = [0u8; OUTPUT_LIMIT];
     let m = output(&input[..n], &mut text);
-    rt.write_all(&text[..m])
+    // A write that fails loses the output: the standard gives the program one exit status.
+    let _ = rt.write_all(&text[..m]);
 }
