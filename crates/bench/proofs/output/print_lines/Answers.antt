@@ -1,8 +1,7 @@
 -- `print_lines` meets its contract: after i turns the first i lines are written. Assumes nothing.
 use native.Mathlib.Omega.{arith}
-use Prim.Native.Nat.{ℕ, ◌+◌, ◌-◌, ◌≤◌}
+use Prim.Native.Nat.{◌+◌, ◌≤◌}
 use mathlib.Core.Path.{◌≡◌, sym, ◌∙◌}
-use mathlib.Core.List.{List}
 use lib.ListN.{length, length-drop, length-take}
 use Rattle.hogunlas.proofs.Opening.{counts_small}
 use Rattle.printout.proofs.Parts.{length-lines}
