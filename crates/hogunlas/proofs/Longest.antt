@@ -1,6 +1,6 @@
 -- "The longest line has 42 bytes" (the standard, "Line and bench"), so that each fits "a buffer of 48 bytes". Assumes nothing.
 --     answered_short     no line that `line` answers is longer
---     longest_line_lem       one has as many
+--     longest_line_lem   one has as many
 --     longest_fits       48 bytes are enough
 use Prim.Native.Nat.{ℕ, ◌<◌, ◌≤◌}
 use mathlib.Core.Path.{◌≡◌, refl, subst}

@@ -1,9 +1,9 @@
 -- From judge_file's answer to what is known of the file, and the sizes of its program. Assumes nothing.
---     program_of_lem                                   an accepted file's program is the one that reading finds
---     opened_by                                    a file that judge_file accepted is accepted with the report it left
---     count_threads, count_variables, count_locks  how many the program has
---     state_size_lem                                   the bytes that the end state takes
---     counts_small                                 a sound file's counts are within the limits
+--     program_of_lem                                an accepted file's program is the one that reading finds
+--     opened_by                                     a file that judge_file accepted is accepted with the report it left
+--     count_threads, count_variables, count_locks   how many the program has
+--     state_size_lem                                the bytes that the end state takes
+--     counts_small                                  a sound file's counts are within the limits
 use Prim.Native.Nat.{ℕ, ◌≤◌}
 use mathlib.Core.Path.{◌≡◌, refl, sym, ◌∙◌, ap}
 use mathlib.Core.List.{List}

@@ -1,12 +1,12 @@
 -- The loop of `walk_codes`: what holds at its head, and how each code carries that on. Assumes nothing.
---     program_scan               the scan over all codes
---     Walking                   what holds at the loop's head
---     walking_start             ... where the loop begins
---     walking_located           where the code that comes next lies
---     report_inside_limit       its report lies within the longest
---     walking_next              ... after a code
---     refused_code              a refusal of a code is one of the program
---     walking_end               after the last code
+--     program_scan          the scan over all codes
+--     Walking               what holds at the loop's head
+--     walking_start         ... where the loop begins
+--     walking_located       where the code that comes next lies
+--     report_inside_limit   its report lies within the longest
+--     walking_next          ... after a code
+--     refused_code          a refusal of a code is one of the program
+--     walking_end           after the last code
 use Prim.Native.Nat.{ℕ, ◌+◌, ◌≤◌, ◌<◌}
 use mathlib.Core.Path.{◌≡◌, refl, ◌∙◌}
 use mathlib.Core.List.{List, [], ◌∷◌}

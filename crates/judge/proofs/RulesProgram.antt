@@ -1,8 +1,8 @@
 -- Judging a code, a program and a file is deriving by the rules (`specs/Rules.antt`; `Rules` is the same for code).
---     exactly                           an answer that is fine exactly with what can be derived
---     judged_code_typed, typed_code_judged      from judging a code to its derivation, and back
---     judged_codes_typed, typed_codes_judged    ... the codes from t on
---     program_exactly                           a program's report is what its derivation reports
+--     exactly                                  an answer that is fine exactly with what can be derived
+--     judged_code_typed, typed_code_judged     from judging a code to its derivation, and back
+--     judged_codes_typed, typed_codes_judged   ... the codes from t on
+--     program_exactly                          a program's report is what its derivation reports
 -- Assumes nothing.
 use Prim.Native.Nat.{ℕ, suc}
 use mathlib.Core.Path.{◌≡◌, refl, sym, ap, ◌∙◌, subst}

@@ -2,7 +2,7 @@
 --     Matches, other_of, whole_of    the open frames are of the parts that the open entries open; so after a closer, by how its part ends
 --     Opener                         an effect that opens a part
 --     frames_pushed, frames_replaced the frames of the array after an opener and a closer
---     carried_in_array                 what is carried, its frames in an array
+--     carried_in_array               what is carried, its frames in an array
 --     instructions_from, scan_from, code_scan
 --                                    the instructions from an offset on, the scan from a place on, and the whole code's
 --     Scanning                       what holds at the loop's head

@@ -1,10 +1,10 @@
 -- The scan over flat code is the rules over structured code. Assumes nothing.
---     carried_after                         what is carried on from code that was judged so
---     Sized, report_size_lem                   the report has a byte for each instruction
---     Agrees                               the theorem's claim: scanning code, and then what follows, is judging it, and then scanning what follows
+--     carried_after            what is carried on from code that was judged so
+--     Sized, report_size_lem   the report has a byte for each instruction
+--     Agrees                   the theorem's claim: scanning code, and then what follows, is judging it, and then scanning what follows
 --     done_agrees, plain_agrees, choice_agrees, loop_agrees, block_agrees
---                                          each construct
---     scan_agrees                          any code
+--                              each construct
+--     scan_agrees              any code
 use Prim.Native.Nat.{ℕ, suc, ◌+◌, ◌*◌}
 use mathlib.Core.Path.{◌≡◌, refl, sym, ◌∙◌, ap}
 use mathlib.Core.Bool.{Bool, true, false, not}

@@ -1,16 +1,16 @@
 -- The loops over the entries of a list, a part at a time: running the entries that are left from what the arrays hold is running the whole.
 -- Assumes nothing.
 --     moved_after, waiting_after   what is counted, after an entry
---     InPart         what holds before an entry of a part
+--     InPart                       what holds before an entry of a part
 --     part_start, part_next, part_end
---                    ... before the first, after an entry, after the last
---     Between        what holds before a part of a list
+--                                  ... before the first, after an entry, after the last
+--     Between                      what holds before a part of a list
 --     between_start, between_next
---                    ... before the first, after a part
---     Whole          what is known of the whole list's run
---     between_end    ... after the last part, or if every thread is at its end
---     whole_tally    the numbers that are kept are those of the whole list
---     whole_counts   its counts are those of the numbers
+--                                  ... before the first, after a part
+--     Whole                        what is known of the whole list's run
+--     between_end                  ... after the last part, or if every thread is at its end
+--     whole_tally                  the numbers that are kept are those of the whole list
+--     whole_counts                 its counts are those of the numbers
 use Rattle.std.proofs.Common.{◌≡◌, ℕ, ◌+◌, ◌-◌, ◌<◌, ◌≤◌, List, [], ◌∷◌, ◌++◌, length, get_or, take, drop, set, replicate, sym, refl, ap, ◌∙◌, subst, add-one, arith, length-drop, length-set, take-append-drop, drop_of_length-le, get_or-drop, drop-cons, get_or-set_other, get_or-set_same, drop-drop, ext_get_or}
 use mathlib.Core.Logic.{dite}
 use native.Mathlib.Decide.{ℕ_discrete, dec_lt}

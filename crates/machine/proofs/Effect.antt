@@ -1,11 +1,11 @@
 -- What an instruction does, as `move_of` says it. Assumes nothing.
---     effect_of_lem       an instruction has its own effect
---     does_branch     what IF and WHILE do, from the register's test
---     effect_thread   the thread after an instruction of this effect
+--     effect_of_lem      an instruction has its own effect
+--     does_branch        what IF and WHILE do, from the register's test
+--     effect_thread      the thread after an instruction of this effect
 --     registers_moved the registers after a Move
---     Accesses        what an instruction that does not wait does to what the threads share
---     accesses        ... by its access
---     thread_moved_lem    the thread laid into its place has moved by the instruction
+--     Accesses           what an instruction that does not wait does to what the threads share
+--     accesses           ... by its access
+--     thread_moved_lem   the thread laid into its place has moved by the instruction
 use Rattle.std.proofs.Common.{◌≡◌, ℕ, ◌+◌, ◌<◌, Bool, true, false, eqb, List, [], length, get_or, set, refl, ap, ◌∙◌}
 use Rattle.program.specs.View.{Access, none, access_of}
 use Rattle.program.specs.Choice.{choose}

@@ -1,7 +1,7 @@
 -- A file's contents by index. Assumes nothing.
 --     length-instructions, get_or-instructions   the instructions of a code section
 --     length-variables, get_or-variables         the variable records
---     length-codes                           the code sections
+--     length-codes                               the code sections
 use Prim.Native.Nat.{ℕ, zero, suc, ◌+◌, ◌*◌, ◌/◌, ◌<◌}
 use mathlib.Core.Path.{◌≡◌, refl, ap, ◌∙◌}
 use mathlib.Core.List.{List, [], ◌∷◌}

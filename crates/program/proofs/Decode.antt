@@ -1,22 +1,22 @@
 -- The table of op codes by row number, and what a decoded instruction's fields satisfy. Assumes nothing.
---     position_found      an op code whose row has a number is looked up as that row
---     position_none       one without a row is invalid
---     row_said            the instruction of valid bytes is its row's, whose fields are right
---     row_below           there are no more row numbers than rows
---     limits_length       how long the lists of limits are
---     fits_valid          bytes are valid exactly if they lie below the limits of their row
+--     position_found       an op code whose row has a number is looked up as that row
+--     position_none        one without a row is invalid
+--     row_said             the instruction of valid bytes is its row's, whose fields are right
+--     row_below            there are no more row numbers than rows
+--     limits_length        how long the lists of limits are
+--     fits_valid           bytes are valid exactly if they lie below the limits of their row
 --     all_right, one_register, two_registers, three_registers
---                         registers whose fields are right
---     row_plain           an instruction of a row without its bit is no opener or closer
---     row_form_lem            one of a row with its bit has the row's form
---     instruction_access  locks and variables below their counts, at any offset, valid or not
---     access_below        ... of four bytes
---     each_row_lem            what a computed test says of all rows
---     or_right            the second of two tests holds where the first does not
---     access_wider        what lies below two counts lies below larger ones
+--                          registers whose fields are right
+--     row_plain            an instruction of a row without its bit is no opener or closer
+--     row_form_lem         one of a row with its bit has the row's form
+--     instruction_access   locks and variables below their counts, at any offset, valid or not
+--     access_below         ... of four bytes
+--     each_row_lem         what a computed test says of all rows
+--     or_right             the second of two tests holds where the first does not
+--     access_wider         what lies below two counts lies below larger ones
 --     AllRows, decode_holds
---                         what holds of each row's instruction holds of what is decoded
---     rows_at             the table of rows, by op code
+--                          what holds of each row's instruction holds of what is decoded
+--     rows_at              the table of rows, by op code
 use Prim.Native.Nat.{ℕ, zero, suc, ◌+◌, ◌-◌, ◌*◌, ◌/◌, ◌%◌, ◌^◌, ◌<◌, ◌≤◌}
 use mathlib.Core.Path.{◌≡◌, refl, sym, ap, ◌∙◌, subst}
 use mathlib.Core.Logic.{◌≢◌}

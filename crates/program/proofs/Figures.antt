@@ -1,9 +1,9 @@
 -- The standard's figures for the limits that specs/Limits.antt computes from others. Assumes nothing.
 --     variable_section_limit_lem, code_section_limit_lem   the largest sections, in bytes
---     largest_file_size                            the largest file
---     report_limit_lem                                 the longest report
---     thread_size_lem                                  a thread's bytes in a state
---     bench_limit_lem                                  how much bench reads
+--     largest_file_size                                    the largest file
+--     report_limit_lem                                     the longest report
+--     thread_size_lem                                      a thread's bytes in a state
+--     bench_limit_lem                                      how much bench reads
 --     line_limit_lem, output_limit_lem                     the longest printout, in lines and in bytes
 use mathlib.Core.Path.{◌≡◌, refl}
 use Rattle.program.specs.Limits.{variable_section_limit, code_section_limit, largest_file, report_limit, thread_size, bench_limit}

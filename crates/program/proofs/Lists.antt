@@ -1,23 +1,23 @@
 -- Facts about lists that the kit's lib.ListN and lib.Seq do not have; of any element. Assumes nothing.
---     get_d_any         an element that is there, whatever stands for none
+--     get_d_any          an element that is there, whatever stands for none
 --     get_or-first       ... of the first n
 --     get_or-set_holds   a property of the element at each index, kept by a store of one that has it there
 --     get_or-set_self    an element set to what stands for none, there or not
 --     take_rest, drop-rest
---                      the rest from a position on, taken whole: all of it, and nothing behind
+--                        the rest from a position on, taken whole: all of it, and nothing behind
 --     take-replicate, get_or-replicate_same
---                      the first of equal elements, and any
---     sets-append      two runs of stores, the second right behind the first
---     set-sets         a store in front of a run of stores
---     sets-front       a run of stores from the front on; what is behind it stays
---     sets-copied      one element more of a list that is copied
+--                        the first of equal elements, and any
+--     sets-append        two runs of stores, the second right behind the first
+--     set-sets           a store in front of a run of stores
+--     sets-front         a run of stores from the front on; what is behind it stays
+--     sets-copied        one element more of a list that is copied
 --     flat_map-append, flat_map-next, length-flat_map
---                      what the elements of a list give, one after the other: of two lists; of one element more; how much, where
---                      each gives as much
---     flatten_next     lists one after the other: one list more
---     listed           the elements of a list, one by one
+--                        what the elements of a list give, one after the other: of two lists; of one element more; how much, where
+--                        each gives as much
+--     flatten_next       lists one after the other: one list more
+--     listed             the elements of a list, one by one
 --     listed_self, listed_set
---                      a list is its elements; with another element at a it is that one at a and its own elsewhere
+--                        a list is its elements; with another element at a it is that one at a and its own elsewhere
 use Prim.Native.Nat.{ℕ, zero, suc, ◌+◌, ◌-◌, ◌*◌, ◌≤◌, ◌<◌}
 use mathlib.Core.Path.{◌≡◌, refl, sym, ◌∙◌, ap}
 use mathlib.Core.List.{List, [], ◌∷◌, ◌++◌, flat_map, flatten, append_assoc, append-nil}

@@ -1,14 +1,14 @@
 -- Of a file's first 33,174 bytes, all that reading can look at: two files that agree on them, neither shorter, are refused alike.
 -- Assumes nothing.
---     bind_alike      two answers that agree, and two ways to go on that agree
+--     bind_alike         two answers that agree, and two ways to go on that agree
 --     code_end, sections_end
---                     where reading stands after code sections
+--                        where reading stands after code sections
 --     pair_alike, section_alike, record_alike, variables_alike, code_alike, sections_alike, threads_alike
---                     each piece of two such files
+--                        each piece of two such files
 --     fields_alike, reading_alike
---                     two such files are read alike
---     largest_file_lem    a sound file has at most 33,173 bytes
---     refused_alike   both are refused, with the same refusal
+--                        two such files are read alike
+--     largest_file_lem   a sound file has at most 33,173 bytes
+--     refused_alike      both are refused, with the same refusal
 use Prim.Native.Nat.{ℕ, zero, suc, ◌+◌, ◌*◌, ◌%◌, ◌/◌, ◌<◌, ◌≤◌}
 use mathlib.Core.Path.{◌≡◌, refl, sym, ◌∙◌, ap}
 use mathlib.Core.Bool.{Bool, ◌&&◌, and-eq-true_iff}

@@ -1,9 +1,9 @@
 -- What is known where reading a part of the file answered a value. Assumes nothing.
---     byte_value, pair_value            a field
---     Head, section_value               a section's head
---     VariablesRead, variables_value    the variable section
---     codes_in_lem                          the codes, by the numbers that were read before them
---     CodeRead, code_value              a code section
+--     byte_value, pair_value           a field
+--     Head, section_value              a section's head
+--     VariablesRead, variables_value   the variable section
+--     codes_in_lem                     the codes, by the numbers that were read before them
+--     CodeRead, code_value             a code section
 use Prim.Native.Nat.{ℕ, ◌+◌, ◌*◌, ◌/◌, ◌%◌, ◌≤◌}
 use mathlib.Core.Path.{◌≡◌, refl, sym, ◌∙◌, ap}
 use mathlib.Core.Bool.{◌&&◌, and-eq-true_iff}

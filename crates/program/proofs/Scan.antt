@@ -1,9 +1,9 @@
 -- The scan for the first place where nesting is broken, one place at a time. Assumes nothing.
---     rest_from      what is left of the scan at a place
---     rest_passed   a place is passed
---     rest_broken   nesting is broken there
---     rest_end      the code's end
---     rest_start    the scan's start
+--     rest_from                           what is left of the scan at a place
+--     rest_passed                         a place is passed
+--     rest_broken                         nesting is broken there
+--     rest_end                            the code's end
+--     rest_start                          the scan's start
 --     turn_broken, turn_room, turn_goes   the same with the entries in an array
 use Prim.Native.Nat.{ℕ, suc, ◌+◌, ◌-◌, ◌*◌, ◌<◌, ◌≤◌}
 use mathlib.Core.Path.{◌≡◌, sym, ap, ◌∙◌}

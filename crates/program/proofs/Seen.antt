@@ -1,7 +1,7 @@
 -- What the rules see of an instruction that a `_ =>` arm takes. Assumes nothing.
---     own_plain, own_alone       a local instruction is no opener or closer, and makes no access
---     keys_beside                 the keys of a `_ =>` arm beside all accesses, openers and closers
---     unnamed_local              an instruction of such an arm
+--     own_plain, own_alone   a local instruction is no opener or closer, and makes no access
+--     keys_beside            the keys of a `_ =>` arm beside all accesses, openers and closers
+--     unnamed_local          an instruction of such an arm
 use Prim.Native.Nat.{ℕ, zero, suc}
 use mathlib.Core.Path.{◌≡◌, refl, sym, ap, subst}
 use mathlib.Core.Bool.{Bool, true, ◌&&◌, not, true≢false, and-eq-true_iff}

@@ -1,6 +1,6 @@
 -- The steps of the definition `fields`; `fields s` is `byte_field s (cursor 0) >>= after_version s` by its definition. Assumes nothing.
 --     after_version, after_locks, after_threads   what follows each of the three bytes
---     after_variables, after_sections            what follows the variable section, and the code sections
+--     after_variables, after_sections             what follows the variable section, and the code sections
 use Prim.Native.Nat.{ℕ}
 use mathlib.Core.Bool.{◌&&◌}
 use mathlib.Core.List.{List}

@@ -1,7 +1,7 @@
 -- The flat writing of structured code. Assumes nothing.
---     length-flat                       it has as many instructions as the code's size says
+--     length-flat                         it has as many instructions as the code's size says
 --     take-flat, get_or-flat, drop-flat   the part that a distance measures off, its closer, and what is behind that
---     structure_flat, structured_flat   read back, it gives the code
+--     structure_flat, structured_flat     read back, it gives the code
 use Prim.Native.Nat.{ℕ, zero, suc, ◌+◌, ◌-◌, ◌≤◌}
 use native.Mathlib.Omega.{arith}
 use mathlib.Core.Path.{◌≡◌, refl, ap, ◌∙◌}

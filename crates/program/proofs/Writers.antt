@@ -1,6 +1,6 @@
 -- The threads that write a variable. Assumes nothing.
---     has_write_lem                    a code has the WRITE that stands at a place of it
---     written_by, writer_found     another thread's code has one exactly if some code other than c does
+--     has_write_lem              a code has the WRITE that stands at a place of it
+--     written_by, writer_found   another thread's code has one exactly if some code other than c does
 use Prim.Native.Nat.{ℕ, zero, suc, ◌+◌, ◌<◌}
 use mathlib.Core.Path.{◌≡◌, refl}
 use mathlib.Core.Logic.{◌≢◌}

@@ -1,7 +1,7 @@
 -- Two moves with independent accesses commute. Assumes nothing.
 --     move_by_comm, moved_named_comm                   in either order they lead to the same state
---     instruction_other, outcome_other, inside_other  what the other thread's move leaves: the instruction, whether it moves, its block
---     move_other, block_other                         and the names of its next move and its block
+--     instruction_other, outcome_other, inside_other   what the other thread's move leaves: the instruction, whether it moves, its block
+--     move_other, block_other                          and the names of its next move and its block
 use Prim.Native.Nat.{ℕ}
 use mathlib.Core.Path.{◌≡◌, sym, ap, ap₂, ◌∙◌}
 use mathlib.Core.Logic.{◌≢◌, Ne-symm}

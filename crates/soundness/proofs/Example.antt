@@ -1,12 +1,12 @@
 -- Demand 3 is not empty: its premises hold of two files, each with a list that interleaves two blocks. Computed. Assumes nothing.
---     adders_sum                            after the list both threads have added 1
+--     adders_sum                 after the list both threads have added 1
 --     adders_interrupted, frame_interrupted the premises hold, and the list is not itself the one that is promised
---     promised, promised_other              what demand 3 then promises, and that it is another list
---     frame_report_lem                          thread 0's READ of the variable that it alone writes is B, and so its block, which begins with
---                                           it and takes a lock later, is A
---     frame_refused_before                  by the rule of the standard's version 1.0 the same file is refused
---     frame_seen                            after the list thread 1 has seen the frame before
---     second_writer_refused                 with a second writer thread 0's block, the same code, is refused with 13
+--     promised, promised_other   what demand 3 then promises, and that it is another list
+--     frame_report_lem           thread 0's READ of the variable that it alone writes is B, and so its block, which begins with
+--                                it and takes a lock later, is A
+--     frame_refused_before       by the rule of the standard's version 1.0 the same file is refused
+--     frame_seen                 after the list thread 1 has seen the frame before
+--     second_writer_refused      with a second writer thread 0's block, the same code, is refused with 13
 use Prim.Native.Nat.{ℕ, zero, suc, ◌<◌}
 use native.Mathlib.Omega.{arith}
 use mathlib.Core.Path.{◌≡◌, refl, subst}

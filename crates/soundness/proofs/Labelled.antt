@@ -1,5 +1,5 @@
 -- Where moves lead, said once. Assumes nothing.
---     instructions_of           the instructions of rows
+--     instructions_of          the instructions of rows
 --     rows_flat, length-rows   the rows' instructions are the code's flat writing
 --     label_begins, label_past the label where the code begins, and the one behind it
 --     moves                    every move of the machine through the flat writing is along an edge whose condition holds

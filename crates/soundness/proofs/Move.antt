@@ -1,11 +1,11 @@
 -- One move. Assumes nothing.
---     moved_waits, moved_place          a thread that moves does not wait, and is not at its code's end
---     thread_moved, thread_moved_lem         the thread that moves, afterwards
+--     moved_waits, moved_place         a thread that moves does not wait, and is not at its code's end
+--     thread_moved, thread_moved_lem   the thread that moves, afterwards
 --     thread_other, place_other, label_other
---                                       the others, and where they stand
---     in_threads, in_finished           a thread of the program is one of the state's
---     goes, permitted, access_below     what the invariant says of its mover, its lock set, its lock or variable
---     invariant_moved                   the invariant holds afterwards
+--                                      the others, and where they stand
+--     in_threads, in_finished          a thread of the program is one of the state's
+--     goes, permitted, access_below    what the invariant says of its mover, its lock set, its lock or variable
+--     invariant_moved                  the invariant holds afterwards
 use Prim.Native.Nat.{ℕ, ◌≤◌, ◌<◌}
 use native.Mathlib.Decide.{ℕ_discrete}
 use native.Mathlib.Omega.{arith}

@@ -1,8 +1,8 @@
 -- Naming the moves changes nothing of a run. Assumes nothing.
---     step_named_lem                  one entry leads to the machine's state
---     run_named_lem, run_end          so does a list, and a list from the start
---     run_moved, moves_counted    of each thread there are as many moves as are counted; from the start
---     moved_by_moves              so lists with the same moves have the same moved counts
+--     step_named_lem             one entry leads to the machine's state
+--     run_named_lem, run_end     so does a list, and a list from the start
+--     run_moved, moves_counted   of each thread there are as many moves as are counted; from the start
+--     moved_by_moves             so lists with the same moves have the same moved counts
 use Prim.Native.Nat.{ℕ, ◌+◌, ◌≤◌, ◌<◌}
 use native.Mathlib.Decide.{ℕ_discrete, dec_lt}
 use native.Mathlib.Nat.{add-zero, zero-add}

@@ -1,6 +1,6 @@
 -- What an instruction does in the walk over a code, as `effect_of` answers it: a second way to say `lock_set_after` and `atomicity_of`, with
 -- which `proofs/Effects.antt` shows that it agrees.
---     passing        an access that is allowed
+--     passing         an access that is allowed
 --     access_effect   a plain instruction, by the access that it makes
 --     form_effect     an opener or a closer
 --     effect_of       any instruction

@@ -1,6 +1,6 @@
 -- What a variable asks of a code that reads or writes it, as a byte (src/access_rule.rt).
 --     free, single, never   the bytes that are no lock
---     rule_of                the byte for a variable of a kind
+--     rule_of               the byte for a variable of a kind
 --     ruled                 what an access by such a byte comes to
 --     RuleTables            the bytes of all variables for one code say what the lock discipline says
 use Rattle.std.specs.Prelude.{ℕ, ◌<◌, ◌≡◌, Bool, not, List, ltb, eqb, length, get_or}

@@ -8,8 +8,8 @@
 --     closed, opened, applied   what is carried on from a closer, from an opener, and from any effect
 --     scan                      the instructions from one on
 --     starting, ending          where a code begins and ends
---     scan_code, scan_codes       a code; the codes from one on
---     reported, frames_of        a verdict with the buffer left, and an array of frames, as the definitions have them
+--     scan_code, scan_codes     a code; the codes from one on
+--     reported, frames_of       a verdict with the buffer left, and an array of frames, as the definitions have them
 use Rattle.std.specs.Prelude.{ℕ, suc, ◌+◌, ◌*◌, not, List, [], ◌∷◌, length, get_or, set, drop}
 use Rattle.atomicity.specs.Atomicity.{report_byte, composition, join, closure}
 use Rattle.atomicity.specs.declared.Atomicity.{Atomicity}

@@ -1,13 +1,13 @@
 -- The state as `run_list` keeps it: in arrays of the largest size, of which the first elements count.
---     thread_in          a thread, of the places and the registers of all
---     threads_in         all of them
---     state_in           the state in arrays
---     from_here          ... with nothing counted
---     nobody            what is read where there is no thread
---     move_thread        one thread moves
---     EightRegisters    each thread has eight registers
---     Kept              what holds between two entries
---     Ended             every thread is at its code's end
+--     thread_in        a thread, of the places and the registers of all
+--     threads_in       all of them
+--     state_in         the state in arrays
+--     from_here        ... with nothing counted
+--     nobody           what is read where there is no thread
+--     move_thread      one thread moves
+--     EightRegisters   each thread has eight registers
+--     Kept             what holds between two entries
+--     Ended            every thread is at its code's end
 use Rattle.std.specs.Prelude.{◌≡◌, ℕ, ◌<◌, ◌≤◌, List, [], ◌∷◌, length, get_or, take, replicate, slice_index, slice_index_or, slice_set}
 use Rattle.program.specs.View.{access_of}
 use Rattle.program.specs.Limits.{lock_limit, thread_limit, variable_limit, register_count}

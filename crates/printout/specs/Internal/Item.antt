@@ -1,9 +1,9 @@
 -- The printout by its parts, as the code finds them. Internal: `proofs/Parts.antt` shows that the parts are the lines of `Line`, and no
 -- public call's contract names them.
 --     variables_line, thread_line, head_lines, whole_line
---                   lines by the numbers that stand in them
---     item_lines     the lines after the variables'
---     ItemAt        what a line of those shows
+--                  lines by the numbers that stand in them
+--     item_lines   the lines after the variables'
+--     ItemAt       what a line of those shows
 use Rattle.std.specs.Prelude.{ℕ, suc, ◌+◌, ◌<◌, ◌≡◌, List, [], ◌∷◌, ◌++◌, get_or}
 use Rattle.program.specs.Layout.{program_of}
 use Rattle.program.specs.Internal.Sections.{bytes_before}

@@ -1,14 +1,14 @@
 -- The open entries as the code holds them, and what an opener or a closer does to them: how the contracts of src/nesting.rt's inner
 -- functions cite the definitions of Nesting, which are over lists. Nothing above that module cites it.
---     entries_of                    the open entries of an array
---     nowhere                      no place
---     is_then, is_loop_of, is_last     which closer an entry waits for
---     row_form                      the form of an opener's or a closer's row
---     Innermost                    the innermost open entry, and whether it names a place
---     changed, turned              the entries after a change, after a turn
+--     entries_of                     the open entries of an array
+--     nowhere                        no place
+--     is_then, is_loop_of, is_last   which closer an entry waits for
+--     row_form                       the form of an opener's or a closer's row
+--     Innermost                      the innermost open entry, and whether it names a place
+--     changed, turned                the entries after a change, after a turn
 --     entries_after, depth_after     the array and the depth after a change
---     Room, RoomOf                 a change, a turn, has room
---     Fulfils                      a turn does what is wanted, and has room
+--     Room, RoomOf                   a change, a turn, has room
+--     Fulfils                        a turn does what is wanted, and has room
 use Rattle.std.specs.Prelude.{ℕ, ◌+◌, ◌-◌, ◌<◌, ◌≡◌, Bool, true, false, List, [], ◌∷◌, eqb, set, length, drop}
 use Rattle.program.specs.Choice.{choose}
 use Rattle.program.specs.Limits.{entry_limit}

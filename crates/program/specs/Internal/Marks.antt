@@ -1,13 +1,13 @@
 -- The table of writers that walk 1 fills (src/walk.rt): a byte for each variable, with a bit for each code that has a WRITE of it.
---     write_row                the row of WRITE
---     besides                 a byte has a bit besides one
+--     write_row      the row of WRITE
+--     besides        a byte has a bit besides one
 --     marked_at, marked, marked_all
---                             a variable, an instruction's, and those of a code, with this bit
---     marked_codes             the codes from number n on, each with its bit
---     writer_table             all codes of a program, from an empty table
---     codes_in                 a file's codes
+--                    a variable, an instruction's, and those of a code, with this bit
+--     marked_codes   the codes from number n on, each with its bit
+--     writer_table   all codes of a program, from an empty table
+--     codes_in       a file's codes
 --     MarkedCode, Marked, MarkedFile
---                             what is in the table after a walk, a section, the file that was read; of a refused one nothing is said
+--                    what is in the table after a walk, a section, the file that was read; of a refused one nothing is said
 use Rattle.std.specs.Prelude.{ℕ, suc, ◌/◌, ◌^◌, ◌≡◌, Bool, not, List, [], ◌∷◌, eqb, get_or, set, replicate}
 use Rattle.std.specs.Int.Bits.{bit_or}
 use Rattle.program.specs.Field.{byte_at, pair_at}

@@ -1,11 +1,11 @@
 -- The rows of the standard's table by number, as the tables of src/instruction.rt have them: from 1 on, 0 for a byte that is no op code.
---     position, row_of             the row of an op code
---     row_table                    ... for each byte
---     limit_of                     the number that a right field lies below
---     kinds, column, limits_of     ... of each row, by its number: field a, then b, then c
---     AreLimits                   ... of some numbers of locks and variables
---     fits                        three fields below the limits of their row
---     nesting_rows                 the rows of openers and closers, a bit each
+--     position, row_of           the row of an op code
+--     row_table                  ... for each byte
+--     limit_of                   the number that a right field lies below
+--     kinds, column, limits_of   ... of each row, by its number: field a, then b, then c
+--     AreLimits                  ... of some numbers of locks and variables
+--     fits                       three fields below the limits of their row
+--     nesting_rows               the rows of openers and closers, a bit each
 use Rattle.std.specs.Prelude.{ℕ, zero, suc, ◌+◌, ◌≤◌, ◌≡◌, Bool, ◌&&◌, List, [], ◌∷◌, ◌++◌, map, get_or, take, replicate, ltb, eqb}
 use Rattle.program.specs.Choice.{choose}
 use Rattle.program.specs.Instruction.{FieldKind, register, variable, lock, zero as zero_field, part, statement, TableRow, table}

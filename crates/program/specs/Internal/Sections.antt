@@ -1,9 +1,9 @@
 -- The table of sections, as src/sections.rt fills it once after reading: where in the file each code lies, and how many instructions it
 -- has. Judging, the step machine and the printout find an instruction by it.
---     no_section         what is read where there is no section
---     Located           where a code lies
---     bytes_before       how many report bytes the codes before one have
---     SectionTable      the whole table of a sound file
+--     no_section     what is read where there is no section
+--     Located        where a code lies
+--     bytes_before   how many report bytes the codes before one have
+--     SectionTable   the whole table of a sound file
 use Rattle.std.specs.Prelude.{ℕ, zero, suc, ◌+◌, ◌-◌, ◌*◌, ◌≤◌, ◌<◌, ◌≡◌, List, [], length, get_or}
 use Rattle.program.specs.Layout.{CodeSection, program_of, instructions_at}
 use Rattle.program.specs.Limits.{instruction_limit, instruction_size}

@@ -2,9 +2,9 @@
 -- call's contract cites it. `proofs/Sound.antt` shows it of every file that is read as sound.
 --     AccessBelow, FieldsGood                 an instruction names registers, locks and variables that there are
 --     AllValid                                the instructions of a section are valid
---     count_at, SoundSection, SoundSections    a code section, and all of them
+--     count_at, SoundSection, SoundSections   a code section, and all of them
 --     SoundFile                               the whole file
---     report_size                              how many report bytes its codes have
+--     report_size                             how many report bytes its codes have
 use Rattle.std.specs.Prelude.{ℕ, zero, suc, ◌+◌, ◌*◌, ◌/◌, ◌<◌, ◌≤◌, ◌≡◌, true, List, [], ◌∷◌, length}
 use Rattle.program.specs.View.{Access, none, reads, writes, takes, gives, access_of}
 use Rattle.program.specs.Field.{byte_at, pair_at}

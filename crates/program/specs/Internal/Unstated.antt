@@ -1,8 +1,8 @@
 -- Instructions, codes and programs with their statements taken out, as specs/Unstated.antt takes them out of a file.
---     unstated_as, unstated             an instruction
---     unstated_code                     structured code
+--     unstated_as, unstated   an instruction
+--     unstated_code           structured code
 --     unstated_section, unstated_program a program
---     Stating                          an ATOMIC, or an instruction that states nothing
+--     Stating                 an ATOMIC, or an instruction that states nothing
 use Rattle.std.specs.Prelude.{ℕ, ◌≡◌, map}
 use Rattle.program.specs.Code.{Code, done, plain, choice, loop, block}
 use Rattle.program.specs.Layout.{Program, CodeSection}

@@ -1,6 +1,6 @@
 -- The walk over a code section as one pass, as the contracts of src/walk.rt cite the definitions of `Layout`.
 --     first_invalid   the first instruction that is not valid
---     walked         where a walk ends: an instruction that is not valid comes before broken nesting
+--     walked          where a walk ends: an instruction that is not valid comes before broken nesting
 use Rattle.std.specs.Prelude.{ℕ, List}
 use Rattle.program.specs.Choice.{first_bad}
 use Rattle.program.specs.Instruction.{decode_at, is_valid}

@@ -1,7 +1,7 @@
 -- What an instruction may do and what it is, by its shared access alone; and when two accesses are independent. Only the proof of
 -- demand 3 speaks of it.
 --     Permitted            a thread may make the access
---     set_after             the lock set behind the access
+--     set_after            the lock set behind the access
 --     AccessesBelow        instructions name only locks and variables that there are
 --     StandsIn             a WRITE stands in the code
 --     Owns                 a thread holds the locks of a set

@@ -6,11 +6,11 @@
 --     counter, reader   thread 0's code and thread 1's block in the second file
 --     counted           a file with thread 0's code, and another
 --     frame             the file
---     second_writer      the same, but for a WRITE of the open variable in thread 1
---     frame_list         the list
---     frame_report       the report
+--     second_writer     the same, but for a WRITE of the open variable in thread 1
+--     frame_list        the list
+--     frame_report      the report
 --     Interrupted       the premises hold of a file and a list that is itself interrupted
---     accepted_of        what a file is accepted with
+--     accepted_of       what a file is accepted with
 use Rattle.std.specs.Prelude.{ℕ, ◌≡◌, List, [], ◌∷◌, ◌++◌}
 use Rattle.judge.specs.Acceptance.{Accepted, accept}
 use Rattle.machine.specs.Block.{NobodyInside, Uninterrupted}

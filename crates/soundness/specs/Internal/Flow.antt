@@ -1,8 +1,8 @@
 -- The lock set and the prefix at each place of typed code, and what a move may lead to. Only the proof of demand 3 speaks of it.
---     Label, label       what is known at a place
---     labelled           the labels of typed code
+--     Label, label        what is known at a place
+--     labelled            the labels of typed code
 --     mover_at, Follows   what a move is, and what it keeps
---     Leads              where code may go on
+--     Leads               where code may go on
 use Rattle.std.specs.Prelude.{ℕ, ◌≡◌}
 use Rattle.atomicity.specs.Atomicity.{join, closure}
 use Rattle.atomicity.specs.declared.Atomicity.{Atomicity}

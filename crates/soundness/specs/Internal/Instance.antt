@@ -1,12 +1,12 @@
 -- The step machine as an instance of `Moves`: states with the blocks finished, moves with their blocks, under the invariant that
 -- each thread holds the locks that its place says. Only the proof of demand 3 speaks of it.
 --     Annotated, ThreadsAnnotated   code with its labels; every thread's
---     block_of                       the block that a thread is in
+--     block_of                      the block that a thread is in
 --     Swapped                       two moves in the other order
 --     next_instruction, next_access, place_of, label_of, row_of, next_mover
 --                                   where a thread stands, and what it does next
 --     Invariant                     what holds between moves
---     Moving, machine_moves          a move, and the instance
+--     Moving, machine_moves         a move, and the instance
 use Rattle.std.specs.Prelude.{ℕ, ◌≤◌, ◌<◌, ◌≡◌, ◌||◌, List, length, get_or}
 use Rattle.atomicity.specs.declared.Atomicity.{Atomicity}
 use Rattle.judge.specs.LockSet.{empty}

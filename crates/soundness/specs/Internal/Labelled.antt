@@ -1,12 +1,12 @@
 -- Structured code with a label at each instruction, and the moves from label to label. What a label is, and what holds of each move,
 -- is said where labels are used: no place and no distance occurs there (`proofs/Labelled.antt`, `moves`). Only the proof of demand 3
 -- speaks of it.
---     Condition, Meets        the registers with which a move is made
---     Tree                    labels for the instructions of code
---     Row, row, Edge, edge    an instruction with its label; a move to a label
+--     Condition, Meets         the registers with which a move is made
+--     Tree                     labels for the instructions of code
+--     Row, row, Edge, edge     an instruction with its label; a move to a label
 --     rows, label_at, begins   the flat writing, and its labels by place
---     edges                   the moves of code
---     Arrives, MovesFrom      the machine goes along an edge
+--     edges                    the moves of code
+--     Arrives, MovesFrom       the machine goes along an edge
 use Rattle.std.specs.Prelude.{ℕ, ◌+◌, ◌≤◌, ◌≡◌, ◌≢◌, List, [], ◌∷◌, ◌++◌, get_or}
 use Rattle.machine.specs.Step.{reg, place_after}
 use Rattle.program.specs.Code.{Code, size}

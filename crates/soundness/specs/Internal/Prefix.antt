@@ -1,9 +1,9 @@
 -- Where a place stands in its thread's code: outside every block, or inside an outermost block, of which what comes before the place
 -- has some atomicity (the prefix). Only the proof of demand 3 speaks of it.
---     Prefix, status_of, is_inner  a prefix; what it counts as, and whether it is inside a block
---     behind, entered            the prefix behind code, and behind an ATOMIC
---     Below, Proper              the order of prefixes; not T
---     Goes                       what a move may lead from and to
+--     Prefix, status_of, is_inner   a prefix; what it counts as, and whether it is inside a block
+--     behind, entered               the prefix behind code, and behind an ATOMIC
+--     Below, Proper                 the order of prefixes; not T
+--     Goes                          what a move may lead from and to
 use Rattle.std.specs.Prelude.{◌≢◌, Bool, true, false, T}
 use Rattle.atomicity.specs.Atomicity.{composition, at_most}
 use Rattle.atomicity.specs.declared.Atomicity.{Atomicity}

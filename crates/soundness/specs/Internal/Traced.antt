@@ -1,7 +1,7 @@
 -- A list of thread numbers as a trace, and back. Only the proof of demand 3 speaks of it.
---     run_named           where a list leads to
---     Traced             a trace under the invariant
---     threads_of, Listed  the threads that make the moves, as an uninterrupted list
+--     run_named            where a list leads to
+--     Traced               a trace under the invariant
+--     threads_of, Listed   the threads that make the moves, as an uninterrupted list
 use Rattle.std.specs.Prelude.{ℕ, ◌≡◌, List, [], ◌∷◌, map}
 use Rattle.machine.specs.Block.{UninterruptedFrom}
 use Rattle.program.specs.Layout.{Program}

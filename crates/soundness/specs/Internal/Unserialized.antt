@@ -2,9 +2,9 @@
 -- list whose end no uninterrupted list has (the standard, "Mistakes that look reasonable": "taking a WRITE as B because no other thread
 -- writes: thread 1 can see v0 new and v1 old").
 --     two_writes, two_writes_program   the file, and its program
---     between_writes                 the list
---     sees_between                   thread 1 has seen v0 new and v1 old
---     is_moved, may_move, never       a search through all uninterrupted lists of two threads
+--     between_writes                   the list
+--     sees_between                     thread 1 has seen v0 new and v1 old
+--     is_moved, may_move, never        a search through all uninterrupted lists of two threads
 use Rattle.std.specs.Prelude.{ℕ, zero, suc, Bool, true, false, not, ◌&&◌, List, [], ◌∷◌, eqb, get_or}
 use Rattle.machine.specs.Block.{inside}
 use Rattle.machine.specs.State.{State, thread_of}

@@ -1,7 +1,7 @@
 -- What the proof of demand 3 asks of a program, and what every accepted file's program is.
 --     no_section   the code of a thread that there is not
---     WellNested  codes that write out structured code
---     Derived     code has a derivation
+--     WellNested   codes that write out structured code
+--     Derived      code has a derivation
 use Rattle.std.specs.Prelude.{ℕ, List, []}
 use Rattle.atomicity.specs.declared.Atomicity.{Atomicity}
 use Rattle.judge.specs.LockSet.{empty}
