@@ -267,6 +267,8 @@ fn an_output_that_fills_up_is_cut() {
     assert_eq!(filled("").status.signal(), Some(25), "SIGXFSZ");
 }
 
+/// The kit's start-up code has each program ignore SIGPIPE, as Rust's does, so it is the same whether
+/// the caller ignores that signal or not.
 #[test]
 fn an_output_that_nobody_reads_is_lost() {
     let example = stored::one(stored::EXAMPLES, "ascent");
@@ -276,7 +278,7 @@ fn an_output_that_nobody_reads_is_lost() {
         ended(bench, &example.file)
     };
     assert_silent(&unread("trap '' PIPE;"), "SIGPIPE ignored");
-    assert_eq!(unread("").status.signal(), Some(13), "SIGPIPE");
+    assert_silent(&unread(""), "SIGPIPE");
 }
 
 /// How a reader tells that a printout is whole: its last line is that of the last thread's whole
