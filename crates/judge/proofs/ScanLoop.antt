@@ -28,7 +28,7 @@ use Rattle.program.specs.Layout.{program_of, instructions_at}
 use Rattle.program.specs.Limits.{entry_limit}
 use Rattle.program.specs.Nesting.{first_broken}
 use Rattle.program.specs.Internal.Stack.{stack_of}
-use Rattle.program.specs.Internal.WellFormed.{Passes, Closes}
+use Rattle.program.specs.Internal.WellFormed.{Passes}
 use Rattle.program.specs.declared.found.Found.TheVariants.{Nowhere}
 use Rattle.program.specs.declared.instruction.Instruction.{Instruction}
 use Rattle.program.specs.declared.layout.Layout.{Layout}

@@ -14,7 +14,7 @@ use Rattle.std.specs.Prelude.{ℕ, suc, ◌+◌, ◌*◌, not, List, [], ◌∷�
 use Rattle.atomicity.specs.Atomicity.{report_byte, composition, join, closure}
 use Rattle.atomicity.specs.declared.Atomicity.{Atomicity}
 use Rattle.atomicity.specs.declared.Atomicity.TheVariants as atomicity
-use Rattle.program.specs.Answer.{Answer, fine, refused, ◌>>=◌, ◌>>◌, require}
+use Rattle.program.specs.Answer.{Answer, fine, refused, ◌>>=◌, require}
 use Rattle.program.specs.Choice.{choose}
 use Rattle.program.specs.Layout.{Program, CodeSection}
 use Rattle.program.specs.Limits.{instruction_size}

@@ -1,9 +1,9 @@
 -- `walk_codes`: the scan over the codes from here on is the whole one. Assumes nothing.
-use Prim.Native.Nat.{ℕ, ◌-◌, ◌≤◌}
+use Prim.Native.Nat.{ℕ, ◌≤◌}
 use mathlib.Core.Path.{refl, sym, subst}
 use native.Mathlib.Omega.{arith}
 use Rattle.program.specs.Limits.{report_limit}
-use Rattle.judge.proofs.CodeLoop.{Walking, walking_start, walking_located, report_inside_limit, walking_next, refused_code, walking_end}
+use Rattle.judge.proofs.CodeLoop.{walking_start, walking_located, report_inside_limit, walking_next, refused_code, walking_end}
 use Rattle.judge.proofs.judging.walk_codes.Goals as goal
 
 pub loop-number-init : goal.loop-number-init

@@ -4,7 +4,6 @@ use lib.ListN.{length}
 use Rattle.program.specs.Internal.Sections.{Located}
 use Rattle.program.specs.declared.layout.Layout.{Layout}
 use Rattle.judge.specs.Internal.Rule.{RuleTables}
-use Rattle.judge.specs.declared.effect.Effect.TheVariants as effect
 use Rattle.judge.proofs.ScanLoop.{Scanning}
 use Rattle.judge.proofs.walk.walk_code.Given as goal
 
