@@ -18,8 +18,9 @@ returns-then-count-i c =
     let found = as_accepted _ _ _ _ _ _ c.in-Done.is c.judge_file-judging.ensures in
     let counted = c.line_count-count.ensures in
     let past : c.line_count-count.result ≤ c.args.i = c.if-count-i.true in
-    let a = line_number c.args.file.now c.args.i c.args.out.now c.in-Done.l found.accepted.report (opened_by found) (rw counted at past) in
-    record { result = rw counted a.0; buffer = a.1 }
+    let a = rw (← counted) at
+    (line_number c.args.file.now c.args.i c.args.out.now c.in-Done.l found.accepted.report (opened_by found) (rw counted at past)) in
+    record { result = a.0; buffer = a.1 }
 
 -- `return Printed::Refused(Refusal::ShortBuffer(LINE_SIZE))`
 pub returns-then-out-lt-LINE_SIZE : goal.returns-then-out-lt-LINE_SIZE

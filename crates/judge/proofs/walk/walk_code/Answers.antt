@@ -24,7 +24,7 @@ use Rattle.judge.specs.declared.frame.Frame.{Frame}
 use Rattle.judge.specs.declared.frame.Part.TheVariants.{Then}
 use Rattle.judge.proofs.Effects.{takes_from, gives_from}
 use Rattle.judge.proofs.ScanLoop.{Scanning, scanning_start, refused_here, scanning_nothing, scanning_single, scanning_takes, scanning_gives, opens, begins, opens_room, scanning_opens, closes_some, opener_bound, refused_closer, scanning_other, scanning_whole, scanning_end, refused_scan}
-use Rattle.judge.proofs.walk.walk_code.Goals.{After-effect_of}
+use Rattle.judge.proofs.walk.walk_code.Goals.{After-effect_of, At-loop-p}
 use Rattle.judge.proofs.walk.walk_code.Goals as goal
 
 -- what a read past the array of frames gives
@@ -32,6 +32,10 @@ abbrev outside : Frame
 outside = record { part = Then; opener = 0; locks = record { bits = 0 }; first = Both; before = Both }
 
 -- what holds at the loop's head, for the layout that was handed in
+head : (u : At-loop-p) → let a = u.args in let o = u.loop-p in Scanning a.s.now a.l a.c.number a.c.start a.c.count a.c.first a.report.now o.report o.frames o.depth o.locks o.sofar o.p
+head u = u.loop-p.invariant u.args.l u.requires.1 u.requires.2 (omega (arith, u.requires.5, u.requires.6))
+
+-- the same once the instruction at hand is read
 here : (u : After-effect_of) → let a = u.args in let o = u.loop-p in Scanning a.s.now a.l a.c.number a.c.start a.c.count a.c.first a.report.now o.report o.frames o.depth o.locks o.sofar o.p
 here u = u.loop-p.invariant u.args.l u.requires.1 u.requires.2 (omega (arith, u.requires.5, u.requires.6))
 
@@ -83,18 +87,18 @@ loop-p-init c =
 
 -- `let d = c.start + INSTRUCTION_SIZE * p`
 pub overflow_mul-d : goal.overflow_mul-d
-overflow_mul-d c = omega (arith, (c.loop-p.invariant c.args.l c.requires.1 c.requires.2 (omega (arith, c.requires.5, c.requires.6))).report_length, (c.loop-p.invariant c.args.l c.requires.1 c.requires.2 (omega (arith, c.requires.5, c.requires.6))).depth_bound, c.requires.5, c.requires.6, c.requires.1.inside, c.requires.1.short)
+overflow_mul-d c = omega (arith, (head ((goal.at.overflow_mul-d c).At-loop-p)).report_length, (head ((goal.at.overflow_mul-d c).At-loop-p)).depth_bound, c.requires.5, c.requires.6, c.requires.1.inside, c.requires.1.short)
 
 pub overflow_add-d : goal.overflow_add-d
-overflow_add-d c = omega (arith, (c.loop-p.invariant c.args.l c.requires.1 c.requires.2 (omega (arith, c.requires.5, c.requires.6))).report_length, (c.loop-p.invariant c.args.l c.requires.1 c.requires.2 (omega (arith, c.requires.5, c.requires.6))).depth_bound, c.requires.5, c.requires.6, c.requires.1.inside, c.requires.1.short)
+overflow_add-d c = omega (arith, (head ((goal.at.overflow_add-d c).At-loop-p)).report_length, (head ((goal.at.overflow_add-d c).At-loop-p)).depth_bound, c.requires.5, c.requires.6, c.requires.1.inside, c.requires.1.short)
 
 -- `let at = c.first + p`
 pub overflow_add-at : goal.overflow_add-at
-overflow_add-at c = omega (arith, (c.loop-p.invariant c.args.l c.requires.1 c.requires.2 (omega (arith, c.requires.5, c.requires.6))).report_length, (c.loop-p.invariant c.args.l c.requires.1 c.requires.2 (omega (arith, c.requires.5, c.requires.6))).depth_bound, c.requires.5, c.requires.6, c.requires.1.inside, c.requires.1.short)
+overflow_add-at c = omega (arith, (head ((goal.at.overflow_add-at c).At-loop-p)).report_length, (head ((goal.at.overflow_add-at c).At-loop-p)).depth_bound, c.requires.5, c.requires.6, c.requires.1.inside, c.requires.1.short)
 
 -- `p += 1`
 pub overflow_add-p : goal.overflow_add-p
-overflow_add-p c = omega (arith, (c.loop-p.invariant c.args.l c.requires.1 c.requires.2 (omega (arith, c.requires.5, c.requires.6))).report_length, (c.loop-p.invariant c.args.l c.requires.1 c.requires.2 (omega (arith, c.requires.5, c.requires.6))).depth_bound, c.requires.5, c.requires.6, c.requires.1.inside, c.requires.1.short)
+overflow_add-p c = omega (arith, (head ((goal.at.overflow_add-p c).At-loop-p)).report_length, (head ((goal.at.overflow_add-p c).At-loop-p)).depth_bound, c.requires.5, c.requires.6, c.requires.1.inside, c.requires.1.short)
 
 -- `match effect_of(instruction_at(rows, s, d), d, locks, reads, writes)`
 pub instruction_at-requires : goal.instruction_at-requires
@@ -110,7 +114,7 @@ effect_of-requires c = (
 )
 
 pub bounds-report-at : goal.bounds-report-at
-bounds-report-at c = omega (arith, (c.loop-p.invariant c.args.l c.requires.1 c.requires.2 (omega (arith, c.requires.5, c.requires.6))).report_length, (c.loop-p.invariant c.args.l c.requires.1 c.requires.2 (omega (arith, c.requires.5, c.requires.6))).depth_bound, c.requires.5, c.requires.6, c.requires.1.inside, c.requires.1.short)
+bounds-report-at c = omega (arith, (head ((goal.at.bounds-report-at c).At-loop-p)).report_length, (head ((goal.at.bounds-report-at c).At-loop-p)).depth_bound, c.requires.5, c.requires.6, c.requires.1.inside, c.requires.1.short)
 
 pub loop-p-preserved-in-Nothing : goal.loop-p-preserved-in-Nothing
 loop-p-preserved-in-Nothing c =
@@ -120,7 +124,7 @@ loop-p-preserved-in-Nothing c =
     λ l located tables some. scanning_nothing a.s.now l a.c.number a.c.start a.c.count a.c.first a.report.now o.report o.frames o.depth o.locks o.sofar o.p (o.invariant l located tables some) u.loop-p-test.true u.instruction_at.result (said u l located) u.effect_of.result (effect_said u l located tables) c.in-Nothing.is
 
 pub bounds-report-at-in-Single : goal.bounds-report-at-in-Single
-bounds-report-at-in-Single c = omega (arith, (c.loop-p.invariant c.args.l c.requires.1 c.requires.2 (omega (arith, c.requires.5, c.requires.6))).report_length, (c.loop-p.invariant c.args.l c.requires.1 c.requires.2 (omega (arith, c.requires.5, c.requires.6))).depth_bound, c.requires.5, c.requires.6, c.requires.1.inside, c.requires.1.short)
+bounds-report-at-in-Single c = omega (arith, (head ((goal.at.bounds-report-at-in-Single c).At-loop-p)).report_length, (head ((goal.at.bounds-report-at-in-Single c).At-loop-p)).depth_bound, c.requires.5, c.requires.6, c.requires.1.inside, c.requires.1.short)
 
 pub loop-p-preserved-in-Single : goal.loop-p-preserved-in-Single
 loop-p-preserved-in-Single c =
@@ -131,7 +135,7 @@ loop-p-preserved-in-Single c =
 
 -- `report[at] = RIGHT`
 pub bounds-report-at-in-Takes : goal.bounds-report-at-in-Takes
-bounds-report-at-in-Takes c = omega (arith, (c.loop-p.invariant c.args.l c.requires.1 c.requires.2 (omega (arith, c.requires.5, c.requires.6))).report_length, (c.loop-p.invariant c.args.l c.requires.1 c.requires.2 (omega (arith, c.requires.5, c.requires.6))).depth_bound, c.requires.5, c.requires.6, c.requires.1.inside, c.requires.1.short)
+bounds-report-at-in-Takes c = omega (arith, (head ((goal.at.bounds-report-at-in-Takes c).At-loop-p)).report_length, (head ((goal.at.bounds-report-at-in-Takes c).At-loop-p)).depth_bound, c.requires.5, c.requires.6, c.requires.1.inside, c.requires.1.short)
 
 -- `locks = locks.with(k)`
 pub with-locks-requires : goal.with-locks-requires
@@ -146,7 +150,7 @@ loop-p-preserved-in-Takes c =
 
 -- `report[at] = LEFT`
 pub bounds-report-at-in-Gives : goal.bounds-report-at-in-Gives
-bounds-report-at-in-Gives c = omega (arith, (c.loop-p.invariant c.args.l c.requires.1 c.requires.2 (omega (arith, c.requires.5, c.requires.6))).report_length, (c.loop-p.invariant c.args.l c.requires.1 c.requires.2 (omega (arith, c.requires.5, c.requires.6))).depth_bound, c.requires.5, c.requires.6, c.requires.1.inside, c.requires.1.short)
+bounds-report-at-in-Gives c = omega (arith, (head ((goal.at.bounds-report-at-in-Gives c).At-loop-p)).report_length, (head ((goal.at.bounds-report-at-in-Gives c).At-loop-p)).depth_bound, c.requires.5, c.requires.6, c.requires.1.inside, c.requires.1.short)
 
 -- `locks = locks.without(k)`
 pub without-locks-requires : goal.without-locks-requires
@@ -161,7 +165,7 @@ loop-p-preserved-in-Gives c =
 
 -- `depth += 1`
 pub overflow_add-depth : goal.overflow_add-depth
-overflow_add-depth c = omega (arith, (c.loop-p.invariant c.args.l c.requires.1 c.requires.2 (omega (arith, c.requires.5, c.requires.6))).depth_bound)
+overflow_add-depth c = omega (arith, (head ((goal.at.overflow_add-depth c).At-loop-p)).depth_bound)
 
 pub offset_bounds-frames-depth : goal.offset_bounds-frames-depth
 offset_bounds-frames-depth c = let u = ((goal.at.offset_bounds-frames-depth c).After-effect_of) in let a = u.args in let o = u.loop-p in omega (arith, opens_room a.s.now a.l a.c.number a.c.start a.c.count a.c.first a.report.now o.report o.frames o.depth o.locks o.sofar o.p (here u) u.loop-p-test.true u.instruction_at.result (said u a.l u.requires.1) u.effect_of.result (effect_said u a.l u.requires.1 u.requires.2) _ (opens c.in-Opens.is))
@@ -178,7 +182,7 @@ loop-p-preserved-in-Opens c =
 
 -- `depth += 1`
 pub overflow_add-depth-in-Begins : goal.overflow_add-depth-in-Begins
-overflow_add-depth-in-Begins c = omega (arith, (c.loop-p.invariant c.args.l c.requires.1 c.requires.2 (omega (arith, c.requires.5, c.requires.6))).depth_bound)
+overflow_add-depth-in-Begins c = omega (arith, (head ((goal.at.overflow_add-depth-in-Begins c).At-loop-p)).depth_bound)
 
 pub offset_bounds-frames-depth-in-Begins : goal.offset_bounds-frames-depth-in-Begins
 offset_bounds-frames-depth-in-Begins c = let u = ((goal.at.offset_bounds-frames-depth-in-Begins c).After-effect_of) in let a = u.args in let o = u.loop-p in omega (arith, opens_room a.s.now a.l a.c.number a.c.start a.c.count a.c.first a.report.now o.report o.frames o.depth o.locks o.sofar o.p (here u) u.loop-p-test.true u.instruction_at.result (said u a.l u.requires.1) u.effect_of.result (effect_said u a.l u.requires.1 u.requires.2) _ (begins c.in-Begins.is))
@@ -194,20 +198,20 @@ loop-p-preserved-in-Begins c =
     λ l located tables some. rw c.opened_frame-in-Begins.ensures (scanning_opens a.s.now l a.c.number a.c.start a.c.count a.c.first a.report.now o.report o.frames o.depth o.locks o.sofar o.p (o.invariant l located tables some) u.loop-p-test.true u.instruction_at.result (said u l located) u.effect_of.result (effect_said u l located tables) _ (begins c.in-Begins.is) (omega (arith, u.requires.5, u.requires.6)))
 
 pub bounds-report-at-in-Closes : goal.bounds-report-at-in-Closes
-bounds-report-at-in-Closes c = omega (arith, (c.loop-p.invariant c.args.l c.requires.1 c.requires.2 (omega (arith, c.requires.5, c.requires.6))).report_length, (c.loop-p.invariant c.args.l c.requires.1 c.requires.2 (omega (arith, c.requires.5, c.requires.6))).depth_bound, c.requires.5, c.requires.6, c.requires.1.inside, c.requires.1.short)
+bounds-report-at-in-Closes c = omega (arith, (head ((goal.at.bounds-report-at-in-Closes c).At-loop-p)).report_length, (head ((goal.at.bounds-report-at-in-Closes c).At-loop-p)).depth_bound, c.requires.5, c.requires.6, c.requires.1.inside, c.requires.1.short)
 
 -- `let frame = frames[depth]`
 pub offset_bounds-frames-depth-in-Closes : goal.offset_bounds-frames-depth-in-Closes
-offset_bounds-frames-depth-in-Closes c = omega (arith, (c.loop-p.invariant c.args.l c.requires.1 c.requires.2 (omega (arith, c.requires.5, c.requires.6))).report_length, (c.loop-p.invariant c.args.l c.requires.1 c.requires.2 (omega (arith, c.requires.5, c.requires.6))).depth_bound, c.requires.5, c.requires.6, c.requires.1.inside, c.requires.1.short)
+offset_bounds-frames-depth-in-Closes c = omega (arith, (head ((goal.at.offset_bounds-frames-depth-in-Closes c).At-loop-p)).report_length, (head ((goal.at.offset_bounds-frames-depth-in-Closes c).At-loop-p)).depth_bound, c.requires.5, c.requires.6, c.requires.1.inside, c.requires.1.short)
 
 pub bounds-frames-depth-in-Closes : goal.bounds-frames-depth-in-Closes
-bounds-frames-depth-in-Closes c = omega (arith, (c.loop-p.invariant c.args.l c.requires.1 c.requires.2 (omega (arith, c.requires.5, c.requires.6))).report_length, (c.loop-p.invariant c.args.l c.requires.1 c.requires.2 (omega (arith, c.requires.5, c.requires.6))).depth_bound, c.requires.5, c.requires.6, c.requires.1.inside, c.requires.1.short)
+bounds-frames-depth-in-Closes c = omega (arith, (head ((goal.at.bounds-frames-depth-in-Closes c).At-loop-p)).report_length, (head ((goal.at.bounds-frames-depth-in-Closes c).At-loop-p)).depth_bound, c.requires.5, c.requires.6, c.requires.1.inside, c.requires.1.short)
 
 pub offset_bounds-frames-depth-in-Other : goal.offset_bounds-frames-depth-in-Other
-offset_bounds-frames-depth-in-Other c = omega (arith, (c.loop-p.invariant c.args.l c.requires.1 c.requires.2 (omega (arith, c.requires.5, c.requires.6))).depth_bound)
+offset_bounds-frames-depth-in-Other c = omega (arith, (head ((goal.at.offset_bounds-frames-depth-in-Other c).At-loop-p)).depth_bound)
 
 pub bounds-frames-depth-in-Other : goal.bounds-frames-depth-in-Other
-bounds-frames-depth-in-Other c = omega (arith, (c.loop-p.invariant c.args.l c.requires.1 c.requires.2 (omega (arith, c.requires.5, c.requires.6))).depth_bound, (c.loop-p.invariant c.args.l c.requires.1 c.requires.2 (omega (arith, c.requires.5, c.requires.6))).frames_length)
+bounds-frames-depth-in-Other c = omega (arith, (head ((goal.at.bounds-frames-depth-in-Other c).At-loop-p)).depth_bound, (head ((goal.at.bounds-frames-depth-in-Other c).At-loop-p)).frames_length)
 
 pub loop-p-preserved-in-Other : goal.loop-p-preserved-in-Other
 loop-p-preserved-in-Other c =
@@ -261,17 +265,17 @@ overflow_add-c c = omega (arith, c.requires.1.inside, c.requires.1.short)
 
 -- `c.first + c.count`
 pub overflow_add-c-2 : goal.overflow_add-c-2
-overflow_add-c-2 c = omega (arith, (c.loop-p.invariant c.args.l c.requires.1 c.requires.2 (omega (arith, c.requires.5, c.requires.6))).report_length, (c.loop-p.invariant c.args.l c.requires.1 c.requires.2 (omega (arith, c.requires.5, c.requires.6))).depth_bound, c.requires.5, c.requires.6, c.requires.1.inside, c.requires.1.short)
+overflow_add-c-2 c = omega (arith, (head ((goal.at.overflow_add-c-2 c).At-loop-p)).report_length, (head ((goal.at.overflow_add-c-2 c).At-loop-p)).depth_bound, c.requires.5, c.requires.6, c.requires.1.inside, c.requires.1.short)
 
 -- `code_end(`
 pub code_end-requires : goal.code_end-requires
 code_end-requires c =
     let a = c.args in
     let inside : a.c.first + a.c.count < length a.report.now = omega (arith, c.requires.5, c.requires.6) in
-    subst (λ (n : ℕ). a.c.first + a.c.count < n) (sym (c.loop-p.invariant c.args.l c.requires.1 c.requires.2 (omega (arith, c.requires.5, c.requires.6))).report_length) inside
+    subst (λ (n : ℕ). a.c.first + a.c.count < n) (sym (head ((goal.at.code_end-requires c).At-loop-p)).report_length) inside
 
 pub returns : goal.returns
 returns c =
     let a = c.args in
     let o = c.loop-p in
-    c.code_end.ensures (frames_of o.depth o.frames) ∙ scanning_end a.s.now a.l a.c.number a.c.start a.c.count a.c.first a.report.now o.report o.frames o.depth o.locks o.sofar o.p (c.loop-p.invariant c.args.l c.requires.1 c.requires.2 (omega (arith, c.requires.5, c.requires.6))) c.loop-p-test.false
+    c.code_end.ensures (frames_of o.depth o.frames) ∙ scanning_end a.s.now a.l a.c.number a.c.start a.c.count a.c.first a.report.now o.report o.frames o.depth o.locks o.sofar o.p (head ((goal.at.returns c).At-loop-p)) c.loop-p-test.false
