@@ -2,7 +2,8 @@
 --     then_assoc, both_then, then_both               composition is associative, with B neutral
 --     then_mono_left, then_mono_right, then_mono     composition is monotone on either side, and on both
 --     then_above                                     what is composed with more only grows
---     order_refl, order_trans, order_join            the order; a is at or below b exactly if the two joined are b
+--     order_refl, order_trans, order_join, order_same
+--                                                    the order; a is at or below b exactly if the two joined are b, by column and by `==`
 --     both_least, not_top_below                      B is at or below everything; below what is not T nothing is T
 --     join_left, join_right, join_least, join_mono   the join is the least upper bound, and monotone
 --     then_join, join_then                           composition distributes over joins on either side
@@ -10,16 +11,14 @@
 --     loop_again                                     one turn more stays within the loop: (x ; b*) ; b is at or below x ; b*
 --     right_before, right_after                      both parts of what is at or below R are at or below R
 --     left_after                                     past the commit, what may still follow in a block is at or below L
-use mathlib.Core.Path.{◌≡◌, refl, ◌∙◌, sym, ap, subst}
-use mathlib.Core.Bool.{Bool, true, false, not, ◌&&◌}
-use mathlib.Core.List.{List, [], ◌∷◌, map}
-use Prim.Native.Nat.{ℕ, zero, suc}
-use lib.ListN.{get_or}
-use lib.Dec.{T, eqb, eqb→eq, not_T}
+use Rattle.std.proofs.Common.{◌≡◌, refl, subst, Bool, true, false, not, ◌&&◌, List, [], ◌∷◌, map, ℕ, zero, suc, eqb, get_or, T, eqb→eq}
+use lib.Dec.{not_T}
+use denote.Enum.Bare.{sameb, tag_one}
 use mir.Facts.{and_yes}
 use Rattle.atomicity.proofs.Table.{values_of, values_of_at}
 use Rattle.atomicity.specs.Atomicity.{composition, join, closure, at_most}
 use Rattle.atomicity.specs.Internal.Column.{column}
+use Rattle.atomicity.specs.contracts.Atomicity.{the_type}
 use Rattle.atomicity.specs.declared.Atomicity.{Atomicity}
 use Rattle.atomicity.specs.declared.Atomicity.TheVariants.{Both, Left, Right, Top}
 
@@ -34,7 +33,7 @@ agree true b = b
 agree false b = not b
 
 abbrev same_atomicity : Atomicity → Atomicity → Bool
-same_atomicity a b = eqb (column a) (column b)
+same_atomicity a b = sameb the_type a b
 
 abbrev all_true : List Bool → Bool
 all_true [] = true
@@ -62,12 +61,8 @@ agree_eq true false t = absurd t
 agree_eq false true t = absurd t
 agree_eq false false t = refl
 
--- an atomicity is told by its column
 same_atomicity_eq : (a b : Atomicity) → T (same_atomicity a b) → a ≡ b
-same_atomicity_eq a b t =
-    sym (values_of_at (λ (x : Atomicity). x) a Top)
-    ∙ ap (λ (i : ℕ). get_or (values_of (λ (x : Atomicity). x)) i Top) (eqb→eq (column a) (column b) t)
-    ∙ values_of_at (λ (x : Atomicity). x) b Top
+same_atomicity_eq a b t = tag_one the_type tt a b (eqb→eq _ _ t)
 
 all_true_at : (bs : List Bool) (i : ℕ) → T (all_true bs) → T (get_or bs i true)
 all_true_at [] i t = tt
@@ -81,7 +76,7 @@ at_each_at f t a = subst T (values_of_at f a true) (all_true_at (values_of f) (c
 
 data Law : Type 0 where
   associative neutral_left neutral_right monotone_left monotone_right growing : Law
-  reflexive transitive by_join least greatest : Law
+  reflexive transitive by_join by_equal least greatest : Law
   upper_left upper_right least_upper over_join join_over : Law
   closed_above closed closed_monotone one_turn_more : Law
   right_first right_second past_commit : Law
@@ -95,7 +90,8 @@ test monotone_right a b c = implies (at_most a b) (at_most (composition c a) (co
 test growing a b c = at_most a (composition a b)
 test reflexive a b c = at_most a a
 test transitive a b c = implies (at_most a b) (implies (at_most b c) (at_most a c))
-test by_join a b c = agree (same_atomicity (join a b) b) (at_most a b)
+test by_join a b c = agree (eqb (column (join a b)) (column b)) (at_most a b)
+test by_equal a b c = agree (same_atomicity (join a b) b) (at_most a b)
 test least a b c = at_most Both a
 test greatest a b c = implies (at_most Top a) (same_atomicity a Top)
 test upper_left a b c = at_most a (join a b)
@@ -116,7 +112,7 @@ laws =
     associative ∷ neutral_left ∷ neutral_right ∷ monotone_left ∷ monotone_right ∷ growing
     ∷ reflexive ∷ transitive ∷ by_join ∷ least ∷ greatest ∷ upper_left
     ∷ upper_right ∷ least_upper ∷ over_join ∷ join_over ∷ closed_above ∷ closed
-    ∷ one_turn_more ∷ right_first ∷ right_second ∷ past_commit ∷ closed_monotone ∷ []
+    ∷ one_turn_more ∷ right_first ∷ right_second ∷ past_commit ∷ closed_monotone ∷ by_equal ∷ []
 
 -- the one computed test
 all_pass : T (all_true (map (λ (l : Law). at_each_three (test l)) laws))
@@ -151,6 +147,7 @@ passed right_first = passed_at 19
 passed right_second = passed_at 20
 passed past_commit = passed_at 21
 passed closed_monotone = passed_at 22
+passed by_equal = passed_at 23
 
 -- a law at three atomicities
 law : (l : Law) (a b c : Atomicity) → T (test l a b c)
@@ -192,6 +189,9 @@ then_mono a b x y h k =
 
 pub order_join : (a b : Atomicity) → eqb (column (join a b)) (column b) ≡ at_most a b
 order_join a b = agree_eq _ _ (law by_join a b a)
+
+pub order_same : (a b : Atomicity) → sameb the_type (join a b) b ≡ at_most a b
+order_same a b = agree_eq _ _ (law by_equal a b a)
 
 pub both_least : (a : Atomicity) → T (at_most Both a)
 both_least a = law least a a a

@@ -3,10 +3,7 @@
 --     values_of, values_of_at
 --                    a function's values in that order; reading them at an atomicity is the function's value
 --     table_at       what `TABLE[i][j]` answers, for a table of a function of two
-use Prim.Native.Nat.{◌<◌}
-use mathlib.Core.Path.{◌≡◌, refl, ◌∙◌, ap}
-use mathlib.Core.List.{List, [], ◌∷◌}
-use lib.ListN.{get_or}
+use Rattle.std.proofs.Common.{◌≡◌, ◌<◌, refl, ◌∙◌, ap, List, [], ◌∷◌, get_or}
 use lib.Dec.{lit<}
 use Rattle.atomicity.specs.Internal.Column.{column}
 use Rattle.atomicity.specs.declared.Atomicity.{Atomicity}

@@ -7,7 +7,7 @@ ghost use Rattle.atomicity.specs.declared.Atomicity.TheVariants.{Both};
 ghost use Rattle.atomicity.specs.Atomicity.{at_most, closure, composition, join, report_byte};
 ghost use Rattle.atomicity.specs.Internal.Column.{column};
 
-#[derive(Clone, Copy)]
+#[derive(Clone, Copy, PartialEq, Eq)]
 pub enum Atomicity {
     // B, both mover: its steps commute both ways.
     Both,
@@ -32,7 +32,7 @@ const A: Atomicity = Atomicity::Atomic;
 const T: Atomicity = Atomicity::Top;
 
 // Rows and columns of the tables stand in the order of the report bytes, B L R A T.
-const COMPOSITION: [[Atomicity; 5]; 5] = [
+const COMPOSITION: &[[Atomicity; 5]; 5] = &[
     [B, L, R, A, T],
     [L, L, T, T, T],
     [R, A, R, A, T],
@@ -40,7 +40,7 @@ const COMPOSITION: [[Atomicity; 5]; 5] = [
     [T, T, T, T, T],
 ];
 
-const JOIN: [[Atomicity; 5]; 5] = [
+const JOIN: &[[Atomicity; 5]; 5] = &[
     [B, L, R, A, T],
     [L, L, A, A, T],
     [R, A, R, A, T],
@@ -48,30 +48,22 @@ const JOIN: [[Atomicity; 5]; 5] = [
     [T, T, T, T, T],
 ];
 
-// The row and the column of an atomicity in a table.
-fn index(a: Atomicity) -> usize
-    ensures { result ≡ column a }
-{
-    match a {
-        Atomicity::Both => 0,
-        Atomicity::Left => 1,
-        Atomicity::Right => 2,
-        Atomicity::Atomic => 3,
-        Atomicity::Top => 4,
-    }
-}
-
 // What a table holds for two atomicities.
-fn entry(table: [[Atomicity; 5]; 5], a: Atomicity, b: Atomicity) -> Atomicity
-    ensures { result ≡ get_or (get_or table (column a) []) (column b) Both }
+fn entry(table: &[[Atomicity; 5]; 5], a: Atomicity, b: Atomicity) -> Atomicity
+    ensures { result ≡ get_or (get_or table.now (column a) []) (column b) Both }
 {
-    let i = index(a);
-    let j = index(b);
-    table[i][j]
+    table[a.column()][b.column()]
 }
 
 impl Atomicity {
-    // The byte that stands for it in the report.
+    // Its row and its column in a table: the variants stand in their order.
+    fn column(self) -> usize
+        ensures { result ≡ column self }
+    {
+        self as usize
+    }
+
+    // The byte that stands for it in the report: by a match, as the standard lists them.
     pub fn report_byte(self) -> u8
         ensures { result ≡ report_byte self }
     {
@@ -85,6 +77,7 @@ impl Atomicity {
     }
 
     // This and then `b`.
+    #[tactic(auto, using(crate::proofs::Table::table_at), unfolding(crate::specs::Atomicity::composition))]
     pub fn then(self, b: Atomicity) -> Atomicity
         ensures { result ≡ composition self b }
     {
@@ -92,6 +85,7 @@ impl Atomicity {
     }
 
     // The least atomicity at or above both.
+    #[tactic(auto, using(crate::proofs::Table::table_at), unfolding(crate::specs::Atomicity::join))]
     pub fn join(self, b: Atomicity) -> Atomicity
         ensures { result ≡ join self b }
     {
@@ -99,10 +93,11 @@ impl Atomicity {
     }
 
     // Whether this is at or below `b`: the two joined are `b`.
+    #[tactic(auto, using(crate::proofs::Laws::order_same))]
     pub fn at_most(self, b: Atomicity) -> bool
         ensures { result ≡ at_most self b }
     {
-        index(self.join(b)) == index(b)
+        self.join(b) == b
     }
 
     // Any number of times this, one after the other.

@@ -3,12 +3,8 @@
 --     lines_none, lines_one_more, lines_all
 --                                         before the first line, after one more, after the last
 --     lines_length, lines_room            the buffer keeps its length, and has room for each line
-use Prim.Native.Nat.{ℕ, ◌+◌, ◌-◌, ◌<◌, ◌≤◌}
-use mathlib.Core.Path.{◌≡◌, refl, sym, ◌∙◌, ap}
-use mathlib.Core.List.{List, [], ◌++◌, flatten, append_assoc, append-nil}
-use native.Mathlib.Omega.{arith}
-use lib.ListN.{length, take, drop, get_or, length-append, length-drop}
-use lib.Seq.{take_all, take_at, drop_at, drop-drop}
+use Rattle.std.proofs.Common.{ℕ, ◌+◌, ◌-◌, ◌<◌, ◌≤◌, ◌≡◌, refl, sym, ◌∙◌, ap, List, [], ◌++◌, append_assoc, append-nil, arith, length, take, drop, get_or, length-append, length-drop, take_all, take_at, drop_at, drop-drop}
+use mathlib.Core.List.{flatten}
 use Rattle.program.specs.Limits.{line_size}
 use Rattle.program.specs.Internal.Bounds.{line_limit, output_limit}
 use Rattle.hogunlas.specs.Calls.{laid_over}

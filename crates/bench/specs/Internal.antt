@@ -1,3 +1,3 @@
 -- What only proofs use.
---     Printing   how far printing has come
+--     Printing   what is printed, and how far printing has come
 pub mod Printing

@@ -10,16 +10,15 @@ use crate::output::output;
 use program::limits::{BENCH_LIMIT, OUTPUT_LIMIT};
 use std::io::Read;
 
-// Reads until the buffer is full, the input ends or a read fails; answers how many bytes it put at the front of the buffer.
+// Reads until the buffer is full, the input ends or a read fails; answers how many bytes it put at the front of the buffer. A failed read
+// ends the input as its end does, since the standard gives bench one exit status. A `while`, since how many reads there will be is not
+// known before.
 fn read_full(input: &mut impl Read, buffer: &mut [u8]) -> usize
     ensures { result ≤ length buffer.new }
 {
     let mut done = 0;
     while done < buffer.len() {
-        let n = match input.read(&mut buffer[done..]) {
-            Ok(n) => n,
-            Err(_) => 0,
-        };
+        let n = input.read(&mut buffer[done..]).unwrap_or(0);
         if n == 0 {
             break;
         }

@@ -1,5 +1,5 @@
 // The standard, "The step machine": "otherwise the thread moves". The record of a thread is lent to the step machine (machine's
-// move_thread, through moved_thread), and shown once it is back.
+// move_thread), and shown once it is back.
 ghost use Rattle.std.specs.Prelude.{◌≤◌};
 ghost use Rattle.program.specs.Limits.{lock_limit, variable_limit};
 ghost use Rattle.program.specs.Internal.Bounds.{largest_place};
@@ -7,7 +7,7 @@ ghost use Rattle.program.specs.Internal.Sound.{FieldsGood};
 
 use crate::show;
 use machine::moves::move_of;
-use machine::thread::{Thread, moved_thread};
+use machine::thread::{Thread, move_thread};
 use program::instruction::Instruction;
 use std::io;
 
@@ -18,42 +18,29 @@ const STANDING: Thread = Thread {
 };
 
 // The thread after an instruction, where a READ finds `value`.
-fn moved(rt: &impl Print, name: &[u8], i: Instruction, value: u32, th: Thread) -> io::Result<()>
+fn moved(rt: &impl Print, name: &str, i: Instruction, value: u32, th: Thread) -> io::Result<()>
     requires { FieldsGood lock_limit variable_limit i × (th.place ≤ largest_place) }
 {
-    let r = th.registers;
-    let one = [r; 1];
-    let m = move_of(i, &one, 0, th.place);
-    let after = moved_thread(th, m, value);
-    let registers = after.registers;
-    show::thread(rt, name, after.place, &registers)
+    let mut after = th;
+    move_thread(&mut after, move_of(i, &th.registers, th.place), value);
+    show::thread(rt, name, &after)
 }
 
 // A result goes into its register, and the thread to the next place: "SUB takes c from b", modulo 2^32.
+#[tactic(auto, unfolding(program::specs::View::access_of))]
 pub fn results(rt: &impl Print) -> io::Result<()> {
-    moved(
-        rt,
-        b"SUB r2 r1 r0: ",
-        Instruction::Sub(2, 1, 0),
-        0,
-        STANDING,
-    )?;
-    moved(
-        rt,
-        b"SUB r2 r0 r1: ",
-        Instruction::Sub(2, 0, 1),
-        0,
-        STANDING,
-    )?;
-    moved(rt, b"READ r7 v0: ", Instruction::Read(7, 0), 9, STANDING)
+    moved(rt, "SUB r2 r1 r0: ", Instruction::Sub(2, 1, 0), 0, STANDING)?;
+    moved(rt, "SUB r2 r0 r1: ", Instruction::Sub(2, 0, 1), 0, STANDING)?;
+    moved(rt, "READ r7 v0: ", Instruction::Read(7, 0), 9, STANDING)
 }
 
 // "IF and WHILE go to the next place if the register is not 0, else one past the named place. ELSE goes to its END. AGAIN goes to its
 // WHILE. All others go to the next place."
+#[tactic(auto, unfolding(program::specs::View::access_of))]
 pub fn places(rt: &impl Print) -> io::Result<()> {
-    moved(rt, b"IF r0 4: ", Instruction::If(0, 4), 0, STANDING)?;
-    moved(rt, b"WHILE r2 4: ", Instruction::While(2, 4), 0, STANDING)?;
-    moved(rt, b"ELSE 4: ", Instruction::Else(4), 0, STANDING)?;
-    moved(rt, b"AGAIN 4: ", Instruction::Again(4), 0, STANDING)?;
-    moved(rt, b"GIVE k0: ", Instruction::Give(0), 0, STANDING)
+    moved(rt, "IF r0 4: ", Instruction::If(0, 4), 0, STANDING)?;
+    moved(rt, "WHILE r2 4: ", Instruction::While(2, 4), 0, STANDING)?;
+    moved(rt, "ELSE 4: ", Instruction::Else(4), 0, STANDING)?;
+    moved(rt, "AGAIN 4: ", Instruction::Again(4), 0, STANDING)?;
+    moved(rt, "GIVE k0: ", Instruction::Give(0), 0, STANDING)
 }

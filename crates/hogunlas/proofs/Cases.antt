@@ -1,7 +1,6 @@
 -- The standard's starred cases hold of the definitions. Assumes nothing.
 --     starred_cases   one computed theorem over the table
-use mathlib.Core.Path.{◌≡◌, refl}
-use mathlib.Core.List.{map}
+use Rattle.std.proofs.Common.{◌≡◌, refl, map}
 use Rattle.hogunlas.specs.Cases.{Case, starred}
 use Rattle.hogunlas.proofs.Definitions.{definitions}
 

@@ -10,10 +10,7 @@
 --     stated_true, stated_above, stated_top, stated_five
 --                                    a true statement, one above the atomicity, one of a block that is T, and one of T
 --     statement_taken_out            a file with its statement taken out
-use mathlib.Core.Path.{◌≡◌, refl}
-use mathlib.Core.List.{List, [], ◌∷◌, ◌++◌}
-use Prim.Native.Nat.{ℕ, zero, suc, ◌+◌}
-use lib.ListN.{replicate}
+use Rattle.std.proofs.Common.{◌≡◌, refl, List, [], ◌∷◌, ◌++◌, ℕ, zero, suc, ◌+◌, replicate}
 use Rattle.machine.specs.Run.{run}
 use Rattle.machine.specs.State.{start}
 use Rattle.printout.specs.Text.{ascii}

@@ -2,6 +2,7 @@
 --     Definitions   all definitions open
 --     Opening       what is known of an accepted file
 --     JudgeCall     what judge answers where its code returns
+--     Listed        a list of numbers that are all below a limit
 --     Running       ... of run
 --     Printing      ... of line
 --     Counted       what the counts of run sum to
@@ -13,6 +14,7 @@
 pub mod Definitions
 pub mod Opening
 pub mod JudgeCall
+pub mod Listed
 pub mod Running
 pub mod Printing
 pub mod Counted

@@ -2,12 +2,8 @@
 --     answered_short     no line that `line` answers is longer
 --     longest_line_lem   one has as many
 --     longest_fits       48 bytes are enough
-use Prim.Native.Nat.{ℕ, ◌<◌, ◌≤◌}
-use mathlib.Core.Path.{◌≡◌, refl, subst}
-use mathlib.Core.List.{List, [], ◌∷◌, ◌++◌, flatten}
-use native.Mathlib.Omega.{arith}
-use lib.Dec.{ltb, leb}
-use lib.ListN.{length, get_or, replicate}
+use Rattle.std.proofs.Common.{ℕ, ◌<◌, ◌≤◌, ◌≡◌, refl, subst, List, [], ◌∷◌, ◌++◌, arith, ltb, leb, length, get_or, replicate, Ok}
+use mathlib.Core.List.{flatten}
 use Rattle.judge.proofs.RulesFile.{accept_judged}
 use Rattle.judge.specs.Acceptance.{Accepted, sound, accept}
 use Rattle.printout.proofs.Widths.{no_longer_line}
@@ -15,7 +11,6 @@ use Rattle.printout.specs.Line.{lines}
 use Rattle.printout.specs.Text.{ascii}
 use Rattle.program.proofs.Answer.{fine_inj, bind_inv, require_inv}
 use Rattle.program.proofs.Sound.{sound_file}
-use Rattle.program.specs.Answer.{fine}
 use Rattle.program.specs.Field.{byte_at}
 use Rattle.program.specs.Layout.{Program, program_of, reading}
 use Rattle.program.specs.Limits.{line_size, longest_line}
@@ -23,7 +18,7 @@ use Rattle.hogunlas.specs.Calls.{line_answer}
 use Rattle.hogunlas.proofs.Definitions.{definitions}
 
 -- the lines of an accepted file
-accepted_short : (s : List ℕ) (a : Accepted) → ((i : ℕ) → byte_at s i < 256) → accept s ≡ fine a → (i : ℕ)
+accepted_short : (s : List ℕ) (a : Accepted) → ((i : ℕ) → byte_at s i < 256) → accept s ≡ Ok a → (i : ℕ)
     → length (get_or (lines s a.program a.report) i []) ≤ longest_line
 unfolding sound
 accepted_short s a bytes e i =
@@ -32,7 +27,7 @@ accepted_short s a bytes e i =
     (no_longer_line s l bytes (sound_file s l reads) a.report i)
 
 -- of bytes, which every file has
-pub answered_short : (s : List ℕ) (i room : ℕ) (text : List ℕ) → ((i : ℕ) → byte_at s i < 256) → line_answer s i room ≡ fine text → length text ≤ longest_line
+pub answered_short : (s : List ℕ) (i room : ℕ) (text : List ℕ) → ((i : ℕ) → byte_at s i < 256) → line_answer s i room ≡ Ok text → length text ≤ longest_line
 unfolding line_answer
 answered_short s i room text bytes e =
     bind_inv (accept s) _ e λ a e₁ f₁.
@@ -47,7 +42,7 @@ widest = 0x01 ∷ 0x10 ∷ 0x01 ∷ 0x01 ∷ 0x80 ∷ flatten (replicate 64 (0x0
 abbrev longest : List ℕ
 longest = ascii "00 0F FFFFFFFF v63 guarded k15 4294967295\n"
 
-pub longest_line_lem : (line_answer widest 67 line_size ≡ fine longest) × (length longest ≡ longest_line)
+pub longest_line_lem : (line_answer widest 67 line_size ≡ Ok longest) × (length longest ≡ longest_line)
 unfolding definitions
 longest_line_lem = (refl, refl)
 

@@ -1,14 +1,6 @@
 -- "It reads at most 33,174 bytes; more can't alter the answer" (the standard, "Line and bench"). Assumes nothing.
 --     rest_unread    bench prints for the first 33,174 bytes what it would print for the whole file
-use Prim.Native.Nat.{ℕ, ◌≤◌}
-use mathlib.Core.Path.{◌≡◌, refl}
-use mathlib.Core.Bool.{Bool, true, false}
-use mathlib.Core.List.{List}
-use lib.Dec.{leb}
-use lib.ListN.{length, take}
-use lib.Seq.{take_all, get_or-take, length-take-le}
-use native.Mathlib.Omega.{arith}
-use borrow.Author.Tests.{leb-true, leb-false}
+use Rattle.std.proofs.Common.{ℕ, ◌≤◌, ◌≡◌, refl, Bool, true, false, List, leb, length, take, take_all, get_or-take, length-take-le, arith, leb-true, leb-false}
 use Rattle.program.specs.Limits.{bench_limit}
 use Rattle.judge.proofs.Accepting.{read_refused}
 use Rattle.judge.specs.Acceptance.{accept}

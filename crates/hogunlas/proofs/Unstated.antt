@@ -3,25 +3,21 @@
 --     answers_alike             what goes on from an accepted file's report alone
 --     judged_alike, ran_alike   what judge and run answer, for every list and room
 --     unstated_alike            ... and what their buffers then hold
-use Prim.Native.Nat.{ℕ}
-use mathlib.Core.Path.{◌≡◌, refl, ap}
-use mathlib.Core.Logic.{◌≢◌}
-use mathlib.Core.List.{List}
-use lib.ListN.{length}
+use Rattle.std.proofs.Common.{ℕ, ◌≡◌, refl, ap, ◌≢◌, List, length, Ok, Err}
 use Rattle.judge.proofs.Unstated.{sound_unstated, report_unstated}
 use Rattle.judge.specs.Acceptance.{Accepted, sound, accept}
 use Rattle.judge.specs.Judging.{judge_program}
 use Rattle.machine.proofs.Unstated.{run_unstated}
 use Rattle.machine.specs.Run.{Run}
 use Rattle.machine.specs.State.{state_bytes}
-use Rattle.program.specs.Answer.{Answer, fine, refused, ◌>>=◌}
+use Rattle.program.specs.Answer.{Answer, ◌>>=◌}
 use Rattle.program.specs.Layout.{Program}
 use Rattle.program.specs.Unstated.{without_statements}
 use Rattle.program.specs.Internal.Unstated.{unstated_program}
 use Rattle.program.specs.declared.refusal.Refusal.TheVariants.{FalseStatement}
 use Rattle.hogunlas.specs.Calls.{buffer_after, judge_answer, judge_buffer, state_size, run_answer, run_buffer}
 
-module _ (s : List ℕ) (p : Program) (is_sound : sound s ≡ fine p) (other : (d : ℕ) → accept s ≢ refused (FalseStatement d)) where
+module _ (s : List ℕ) (p : Program) (is_sound : sound s ≡ Ok p) (other : (d : ℕ) → accept s ≢ Err (FalseStatement d)) where
   answers_alike : {A : Type 0} (go : Accepted → Answer A)
       → ((report : List ℕ) → go (record { program = unstated_program p; report = report }) ≡ go (record { program = p; report = report }))
       → (accept (without_statements s) >>= go) ≡ (accept s >>= go)
@@ -29,9 +25,9 @@ module _ (s : List ℕ) (p : Program) (is_sound : sound s ≡ fine p) (other : (
   answers_alike go same = rw (sound_unstated s p is_sound, is_sound, report_unstated s p is_sound other) (cases (judge_program p))
     where
       cases : (m : Answer (List ℕ))
-          → ((m >>= λ report. fine (record { program = unstated_program p; report = report })) >>= go) ≡ ((m >>= λ report. fine (record { program = p; report = report })) >>= go)
-      cases (fine report) = same report
-      cases (refused r) = refl
+          → ((m >>= λ report. Ok (record { program = unstated_program p; report = report })) >>= go) ≡ ((m >>= λ report. Ok (record { program = p; report = report })) >>= go)
+      cases (Ok report) = same report
+      cases (Err r) = refl
 
   judged_alike : (room : ℕ) → judge_answer (without_statements s) room ≡ judge_answer s room
   unfolding judge_answer

@@ -1,13 +1,13 @@
 -- The starred cases (the standard, "Cases"), one row each: what the definitions compute, and what the standard says.
-use Rattle.std.specs.Prelude.{ℕ, ◌+◌, length, replicate}
-use mathlib.Core.List.{List, [], ◌∷◌, ◌++◌, map, flat_map}
+use Rattle.std.specs.Prelude.{ℕ, ◌+◌, length, replicate, List, [], ◌∷◌, ◌++◌, map, Ok, Err}
+use mathlib.Core.List.{flat_map}
 use Rattle.atomicity.specs.Atomicity.{report_byte, composition, join, closure}
 use Rattle.atomicity.specs.declared.Atomicity.{Atomicity}
 use Rattle.atomicity.specs.declared.Atomicity.TheVariants.{Left, Right, Atomic, Top}
 use Rattle.machine.specs.Run.{Run}
 use Rattle.machine.specs.declared.counts.Counts.{Counts}
 use Rattle.machine.specs.declared.thread.Thread.{Thread}
-use Rattle.program.specs.Answer.{Answer, fine, refused}
+use Rattle.program.specs.Answer.{Answer}
 use Rattle.program.specs.Limits.{lock_limit, thread_limit, variable_limit, report_limit, size_of_state}
 use Rattle.program.specs.Refusal.{number_of, detail_of}
 use Rattle.hogunlas.specs.Calls.{judge_answer, run_answer}
@@ -31,8 +31,8 @@ atomicity a = numbers (report_byte a ∷ [])
 
 -- what an answer says, of which these numbers count
 abbrev pub answer_says : {A : Type 0} → (A → List ℕ) → Answer A → Says
-answer_says counting (fine a) = numbers (counting a)
-answer_says counting (refused r) = refusal (number_of r) (detail_of r)
+answer_says counting (Ok a) = numbers (counting a)
+answer_says counting (Err r) = refusal (number_of r) (detail_of r)
 
 -- the report, in a buffer of the size that every report fits
 unfoldable pub judge_says : List ℕ → Says

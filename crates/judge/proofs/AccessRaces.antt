@@ -2,11 +2,8 @@
 -- for open variables. Assumes nothing.
 --     conflict      the variable is open
 --     race_atomic   and the first of the two is A; so is the other, with the threads exchanged
-use Prim.Native.Nat.{ℕ}
-use borrow.Author.Tests.{eqb-true}
-use mathlib.Core.Path.{◌≡◌, refl, sym, ap, ◌∙◌}
-use mathlib.Core.Logic.{◌≢◌, Ne-symm}
-use mathlib.Core.Bool.{Bool, true, false, ◌||◌}
+use Rattle.std.proofs.Common.{ℕ, eqb-true, ◌≡◌, refl, sym, ap, ◌∙◌, ◌≢◌, Bool, true, false, ◌||◌}
+use mathlib.Core.Logic.{Ne-symm}
 use Rattle.atomicity.specs.declared.Atomicity.TheVariants as atomicity
 use Rattle.program.proofs.Differ.{differ}
 use Rattle.program.proofs.Writers.{written_by}

@@ -7,15 +7,9 @@
 --     walking_next          ... after a code
 --     refused_code          a refusal of a code is one of the program
 --     walking_end           after the last code
-use Prim.Native.Nat.{ℕ, ◌+◌, ◌≤◌, ◌<◌}
-use mathlib.Core.Path.{◌≡◌, refl, ◌∙◌}
-use mathlib.Core.List.{List, [], ◌∷◌}
-use native.Mathlib.Numerals.{add-one}
-use native.Mathlib.Omega.{arith}
-use lib.ListN.{length, get_or, drop, drop_of_length-le}
-use lib.Seq.{drop-cons}
-use Rattle.program.specs.Answer.{Answer, fine, refused, ◌>>=◌}
-use Rattle.program.specs.Layout.{CodeSection, program_of, instructions_at}
+use Rattle.std.proofs.Common.{ℕ, ◌+◌, ◌≤◌, ◌<◌, ◌≡◌, refl, ◌∙◌, ap, List, [], ◌∷◌, add-one, arith, length, get_or, drop, drop_of_length-le, drop-cons, Ok, Err}
+use Rattle.program.specs.Answer.{Answer, ◌>>=◌}
+use Rattle.program.specs.Layout.{CodeSection, program_of}
 use Rattle.program.specs.Limits.{report_limit, record_offset}
 use Rattle.program.specs.Internal.Sections.{Located, SectionTable, no_section, bytes_before}
 use Rattle.program.specs.declared.layout.Layout.{Layout}
@@ -28,7 +22,7 @@ use Rattle.judge.specs.Internal.Scan.{scan_code, scan_codes}
 module _ (s : List ℕ) (l : Layout) (starts counts : List ℕ) (table : SectionTable s l starts counts) (report₀ : List ℕ) where
   -- the code with a number
   abbrev pub section_of : ℕ → CodeSection
-  section_of c = record { start = get_or starts c 0; code = instructions_at l.locks l.variables s (get_or counts c 0) (get_or starts c 0) }
+  section_of c = get_or (program_of s l).codes c no_section
 
   -- the scan over all codes
   abbrev pub program_scan : Answer (List ℕ)
@@ -64,14 +58,15 @@ module _ (s : List ℕ) (l : Layout) (starts counts : List ℕ) (table : Section
       unfolding scan_codes
       code_then_rest =
           let here : drop number (program_of s l).codes ≡ section_of number ∷ drop (number + 1) (program_of s l).codes =
-          drop-cons (program_of s l).codes number no_section (omega (arith, codes_length))
-          ∙ rw (walking_located.section, add-one number) in
-          let place : first + (get_or counts number 0 + 1) ≡ first + length (section_of number).code + 1 =
-          omega (arith, length-instructions l.locks l.variables s (get_or counts number 0) (get_or starts number 0)) in
+          drop-cons (program_of s l).codes number no_section (omega (arith, codes_length)) ∙ rw (add-one number) in
+          let size : length (section_of number).code ≡ get_or counts number 0 =
+          ap (λ (x : CodeSection). length x.code) walking_located.section
+          ∙ length-instructions l.locks l.variables s (get_or counts number 0) (get_or starts number 0) in
+          let place : first + (get_or counts number 0 + 1) ≡ first + length (section_of number).code + 1 = omega (arith, size) in
           rw (place, add-one number) (rw (here, add-one number) at x.rest_is_whole)
 
       pub walking_next : (report' : List ℕ) → length report' ≡ length report
-          → fine report' ≡ scan_code (program_of s l) number first report (section_of number)
+          → Ok report' ≡ scan_code (program_of s l) number first report (section_of number)
           → Walking report' (number + 1) (first + (get_or counts number 0 + 1))
       walking_next report' k e = record {
         few = omega arith;
@@ -80,10 +75,10 @@ module _ (s : List ℕ) (l : Layout) (starts counts : List ℕ) (table : Section
         rest_is_whole = rw (← e) at code_then_rest;
       }
 
-      pub refused_code : (r : Refusal) → refused r ≡ scan_code (program_of s l) number first report (section_of number) → refused r ≡ program_scan
+      pub refused_code : (r : Refusal) → Err r ≡ scan_code (program_of s l) number first report (section_of number) → Err r ≡ program_scan
       refused_code r e = rw (← e) at code_then_rest
 
-    pub walking_end : l.threads ≤ number → fine report ≡ program_scan
+    pub walking_end : l.threads ≤ number → Ok report ≡ program_scan
     unfolding scan_codes
     walking_end none =
         let all : length (program_of s l).codes ≤ number = omega (arith, codes_length) in

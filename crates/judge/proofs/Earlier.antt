@@ -2,15 +2,9 @@
 --     before_access    beside a writer of every variable, each access is what it was by the earlier rule
 --     still_typed      what the rules derived, they derive without the statements, with an atomicity at or below
 --     still_accepted   no file that was accepted is refused now. Such a file has no statements: with one it was refused (7)
-use Prim.Native.Nat.{ℕ, zero, suc, ◌<◌}
+use Rattle.std.proofs.Common.{ℕ, zero, suc, ◌<◌, arith, eq-eqb, ne_eqb, ◌≡◌, refl, sym, ap, ◌∙◌, subst, Bool, true, false, List, [], ◌∷◌, map, T, length, Ok}
 use native.Mathlib.Decide.{ℕ_discrete}
-use native.Mathlib.Omega.{arith}
-use borrow.Author.Tests.{eq-eqb, ne_eqb}
-use mathlib.Core.Path.{◌≡◌, refl, sym, ap, ◌∙◌, subst}
-use mathlib.Core.Bool.{Bool, true, false}
-use mathlib.Core.List.{List, [], ◌∷◌, map}
-use lib.Dec.{T}
-use lib.ListN.{length, get_or-append}
+use lib.ListN.{get_or-append}
 use lib.Seq.{get_or-append_seam}
 use Rattle.atomicity.proofs.Laws.{then_mono, order_refl, both_least, not_top_below, join_mono, closure_mono}
 use Rattle.atomicity.specs.Atomicity.{composition, join, closure, at_most}
@@ -20,7 +14,6 @@ use Rattle.program.proofs.Answer.{fine_inj}
 use Rattle.program.proofs.Differ.{differ}
 use Rattle.program.proofs.Unstated.{structured_unstated}
 use Rattle.program.proofs.Writers.{written_by, writer_found}
-use Rattle.program.specs.Answer.{fine}
 use Rattle.program.specs.Code.{Code}
 use Rattle.program.specs.Layout.{Program, CodeSection, code_of}
 use Rattle.program.specs.Unstated.{without_statements}
@@ -153,8 +146,8 @@ module _ (p : Program) where
       typed_code (record { atomicity = b; typed = here }) (still_typed_codes xs nested.1 d)
 
 -- a sound file without statements, which the version of the earlier rule did not know, that the earlier rule accepts
-pub still_accepted : (s : List ℕ) (p : Program) → sound s ≡ fine p → without_statements s ≡ s → {before : List ℕ} → judge_before p ≡ fine before
-    → (report : List ℕ) × (accept s ≡ fine (record { program = p; report = report }))
+pub still_accepted : (s : List ℕ) (p : Program) → sound s ≡ Ok p → without_statements s ≡ s → {before : List ℕ} → judge_before p ≡ Ok before
+    → (report : List ℕ) × (accept s ≡ Ok (record { program = p; report = report }))
 unfolding judge_before unstated_program
 still_accepted s p e silent before =
     let bare : unstated_program p ≡ p = fine_inj _ p (sym (sound_unstated s p e) ∙ (ap sound silent ∙ e)) in

@@ -5,14 +5,10 @@
 --     set-alike, legal_alike
 --                     programs with the same kinds of variables have the same lock discipline
 -- Assumes nothing.
-use Prim.Native.Nat.{ℕ}
-use mathlib.Core.Path.{◌≡◌, refl, ap, ◌∙◌, subst}
-use mathlib.Core.Logic.{◌↔◌}
-use mathlib.Core.Bool.{true, false, not}
-use lib.Dec.{eqb}
-use borrow.Author.Tests.{eqb-true, eq-eqb, not-true}
+use Rattle.std.proofs.Common.{ℕ, ◌≡◌, refl, ap, ◌∙◌, subst, ◌↔◌, true, false, not, eqb, eqb-true, eq-eqb, Ok}
+use borrow.Author.Tests.{not-true}
 use Rattle.program.specs.View.{Access, none, reads, writes, takes, gives}
-use Rattle.program.specs.Answer.{fine, require}
+use Rattle.program.specs.Answer.{Answer, require}
 use Rattle.program.specs.Layout.{Program}
 use Rattle.program.specs.declared.refusal.Refusal.{Refusal}
 use Rattle.program.specs.declared.variable.Kind.{Kind}
@@ -28,12 +24,12 @@ module _ (p : Program) (c : ℕ) where
   -- ---- from judging to the rules
 
   -- a legal access leads to what judging answers
-  led : {x : Access} {s s₁ s₂ : LockSet} → Legal p c x s s₁ → fine s₁ ≡ fine s₂ → Legal p c x s s₂
+  led : {x : Access} {s s₁ s₂ : LockSet} → Legal p c x s s₁ → ◌≡◌ {A = Answer LockSet} (Ok s₁) (Ok s₂) → Legal p c x s s₂
   led {x} {s} {s₁} {s₂} l e = subst (Legal p c x s) (fine_inj s₁ s₂ e) l
 
   -- by the variable's kind
   read_legal : (v : ℕ) (s : LockSet) (r : Refusal) (k : Kind) {s' : LockSet} → kind_at p v ≡ k
-      → require (permits k c s false) r (fine s) ≡ fine s' → Legal p c (reads v) s s'
+      → require (permits k c s false) r (Ok s) ≡ Ok s' → Legal p c (reads v) s s'
   unfolding permits
   read_legal v s r (Guarded g) k e = require_inv (holds s g) _ _ e λ h f. led (legal_read_guarded k h) f
   read_legal v s r (Own g) k e = require_inv (eqb g c) _ _ e λ h f. led (legal_read_own (k ∙ ap Own (eqb-true g c h))) f
@@ -41,14 +37,14 @@ module _ (p : Program) (c : ℕ) where
   read_legal v s r Open k e = led (legal_read_open k) e
 
   write_legal : (v a : ℕ) (s : LockSet) (r : Refusal) (k : Kind) {s' : LockSet} → kind_at p v ≡ k
-      → require (permits k c s true) r (fine s) ≡ fine s' → Legal p c (writes v a) s s'
+      → require (permits k c s true) r (Ok s) ≡ Ok s' → Legal p c (writes v a) s s'
   unfolding permits
   write_legal v a s r (Guarded g) k e = require_inv (holds s g) _ _ e λ h f. led (legal_write_guarded k h) f
   write_legal v a s r (Own g) k e = require_inv (eqb g c) _ _ e λ h f. led (legal_write_own (k ∙ ap Own (eqb-true g c h))) f
-  write_legal v a s r Fixed k e = require_inv false r (fine s) e λ h f. differ cc
+  write_legal v a s r Fixed k e = require_inv false r (Ok s) e λ h f. differ cc
   write_legal v a s r Open k e = led (legal_write_open k) e
 
-  pub judged_legal : (x : Access) (d : ℕ) (s : LockSet) {s' : LockSet} → accessed_set p c d x s ≡ fine s' → Legal p c x s s'
+  pub judged_legal : (x : Access) (d : ℕ) (s : LockSet) {s' : LockSet} → accessed_set p c d x s ≡ Ok s' → Legal p c x s s'
   unfolding accessed_set
   judged_legal none d s e = led legal_none e
   judged_legal (reads v) d s e = read_legal v s _ (kind_at p v) refl e
@@ -58,7 +54,7 @@ module _ (p : Program) (c : ℕ) where
 
   -- ---- from the rules to judging
 
-  pub legal_judged : {x : Access} {s s' : LockSet} → Legal p c x s s' → (d : ℕ) → accessed_set p c d x s ≡ fine s'
+  pub legal_judged : {x : Access} {s s' : LockSet} → Legal p c x s s' → (d : ℕ) → accessed_set p c d x s ≡ Ok s'
   unfolding accessed_set permits
   legal_judged legal_none d = refl
   legal_judged (legal_read_guarded {g = g} {s = s} k h) d = rw k (require_on (holds s g) _ _ h refl)
@@ -72,7 +68,7 @@ module _ (p : Program) (c : ℕ) where
   legal_judged (legal_give {k = k} {s = s} h) d = require_on (holds s k) _ _ h refl
 
   -- an access passes judging exactly where a rule of the lock discipline says so
-  pub legal_exactly : (x : Access) (d : ℕ) (s s' : LockSet) → (accessed_set p c d x s ≡ fine s') ↔ Legal p c x s s'
+  pub legal_exactly : (x : Access) (d : ℕ) (s s' : LockSet) → (accessed_set p c d x s ≡ Ok s') ↔ Legal p c x s s'
   legal_exactly x d s s' = (judged_legal x d s, λ l. legal_judged l d)
 
 -- the discipline looks at the kinds of variables, and at nothing else of a program

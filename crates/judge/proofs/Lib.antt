@@ -6,6 +6,7 @@
 --     AccessRules     what a variable asks of a code, as a byte
 --     Effects         what an instruction does in the walk
 --     Reports         the report's bytes stored one after the other
+--     Frames          how the end of a part is tested
 --     Scanning        the scan over flat code is the rules over structured code
 --     ScanCodes       ... over the codes of a program
 --     NestedSections  the code sections of a sound file are well nested
@@ -25,6 +26,7 @@ pub mod AccessRaces
 pub mod AccessRules
 pub mod Effects
 pub mod Reports
+pub mod Frames
 pub mod Scanning
 pub mod ScanCodes
 pub mod NestedSections

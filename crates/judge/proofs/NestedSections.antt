@@ -1,7 +1,6 @@
 -- The code sections of a sound file are well nested. Assumes nothing.
 --     sections_nested   each of them
-use Prim.Native.Nat.{ℕ, zero, suc, ◌+◌, ◌*◌}
-use mathlib.Core.List.{List}
+use Rattle.std.proofs.Common.{ℕ, zero, suc, ◌+◌, ◌*◌, List}
 use Rattle.program.specs.Layout.{codes_at}
 use Rattle.program.specs.Internal.Sound.{SoundSections, count_at}
 use Rattle.judge.specs.Internal.Nested.{Nested}

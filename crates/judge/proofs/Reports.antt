@@ -1,11 +1,7 @@
 -- The report's bytes stored one after the other, and the byte of an opener, stored when its construct ends. Assumes nothing.
 --     sets-closed   a construct's bytes: its body's, 0 at its closer, then its own at its opener
 --     sets-parts    two parts' bytes with a 0 between them
-use Prim.Native.Nat.{ℕ, suc, ◌+◌}
-use mathlib.Core.Path.{◌≡◌, sym, ◌∙◌, ap}
-use mathlib.Core.List.{List, ◌∷◌, ◌++◌}
-use native.Mathlib.Omega.{arith}
-use lib.ListN.{length, set}
+use Rattle.std.proofs.Common.{ℕ, suc, ◌+◌, ◌≡◌, sym, ◌∙◌, ap, List, ◌∷◌, ◌++◌, arith, length, set}
 use lib.Seq.{sets, set_comm}
 use Rattle.program.proofs.Lists.{sets-append, set-sets}
 

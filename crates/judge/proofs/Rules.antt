@@ -7,18 +7,13 @@
 --     judge_exactly              both: well formed code is judged fine exactly with what a derivation says
 --     typed_unique               code has one lock set after it, one atomicity and one report at most
 -- Assumes nothing.
-use Prim.Native.Nat.{ℕ, ◌+◌, ◌*◌}
-use mathlib.Core.Path.{◌≡◌, refl, sym, ap, ◌∙◌, subst}
-use mathlib.Core.Logic.{◌≢◌, ◌↔◌}
-use mathlib.Core.Bool.{Bool, true, false, not, or-true}
-use mathlib.Core.List.{List}
-use lib.Dec.{eqb}
-use borrow.Author.Tests.{eqb-true, eq-eqb}
+use Rattle.std.proofs.Common.{ℕ, ◌+◌, ◌*◌, ◌≡◌, refl, sym, ap, ◌∙◌, subst, ◌≢◌, ◌↔◌, Bool, true, false, not, List, eqb, eqb-true, eq-eqb, Ok}
+use mathlib.Core.Bool.{or-true}
 use Rattle.atomicity.specs.Atomicity.{report_byte}
 use Rattle.atomicity.specs.declared.Atomicity.{Atomicity}
 use Rattle.atomicity.specs.declared.Atomicity.TheVariants as atomicity
 use Rattle.program.specs.View.{access_of}
-use Rattle.program.specs.Answer.{fine}
+use Rattle.program.specs.Answer.{Answer}
 use Rattle.program.specs.Code.{Code, done, plain, choice, loop, block, size}
 use Rattle.program.specs.Layout.{Program}
 use Rattle.program.specs.Internal.WellFormed.{WellFormed}
@@ -65,12 +60,12 @@ states_truly_lem {a = a} states_it = rw (eq-eqb (report_byte a) (report_byte a) 
 module _ (p : Program) (t : ℕ) where
   -- ---- from judging to a derivation
 
-  typed_found : {s : LockSet} {c : Code} (j r : Finding) → fine j ≡ fine r → Typed p t s c j.locks j.atomicity
+  typed_found : {s : LockSet} {c : Code} (j r : Finding) → ◌≡◌ {A = Answer Finding} (Ok j) (Ok r) → Typed p t s c j.locks j.atomicity
       → Typed p t s c r.locks r.atomicity
   typed_found {s} {c} j r e = subst (λ (x : Finding). Typed p t s c x.locks x.atomicity) (fine_inj j r e)
 
   -- what judging finds has a derivation
-  pub judge_typed : (c : Code) → WellFormed c → (d : ℕ) (s : LockSet) {r : Finding} → judge p t d s c ≡ fine r
+  pub judge_typed : (c : Code) → WellFormed c → (d : ℕ) (s : LockSet) {r : Finding} → judge p t d s c ≡ Ok r
       → Typed p t s c r.locks r.atomicity
   unfolding judge lock_set_after WellFormed
   judge_typed done w d s e = typed_found _ _ e typed_done
@@ -107,7 +102,7 @@ module _ (p : Program) (t : ℕ) where
 
   -- what has a derivation, judging finds, at any offset
   pub typed_judge : {s s' : LockSet} {c : Code} {a : Atomicity} (D : Typed p t s c s' a) (d : ℕ)
-      → judge p t d s c ≡ fine (record { locks = s'; atomicity = a; report = report D })
+      → judge p t d s c ≡ Ok (record { locks = s'; atomicity = a; report = report D })
   unfolding judge lock_set_after report
   typed_judge typed_done d = refl
   typed_judge (typed_plain {i = i} {next = c} {s = s} {s' = s'} f l rest) d =
@@ -129,7 +124,7 @@ module _ (p : Program) (t : ℕ) where
       (bind_on (judge p t (d + 4 + 4 * size a + 4) s' c) _ (typed_judge rest _) refl)))
 
   -- the derivation that judging finds has the report that judging makes
-  pub judge_report : (c : Code) → WellFormed c → (d : ℕ) (s : LockSet) {r : Finding} → judge p t d s c ≡ fine r
+  pub judge_report : (c : Code) → WellFormed c → (d : ℕ) (s : LockSet) {r : Finding} → judge p t d s c ≡ Ok r
       → (D : Typed p t s c r.locks r.atomicity) × (report D ≡ r.report)
   judge_report c w d s {r} e =
       let D = judge_typed c w d s e in
@@ -137,10 +132,10 @@ module _ (p : Program) (t : ℕ) where
 
   -- well formed code is judged fine exactly with what a derivation says
   pub judge_exactly : (c : Code) → WellFormed c → (d : ℕ) (s : LockSet) (r : Finding)
-      → (judge p t d s c ≡ fine r) ↔ ((D : Typed p t s c r.locks r.atomicity) × (report D ≡ r.report))
+      → (judge p t d s c ≡ Ok r) ↔ ((D : Typed p t s c r.locks r.atomicity) × (report D ≡ r.report))
   judge_exactly c w d s r = (
     judge_report c w d s,
-    λ h. typed_judge h.0 d ∙ ap (λ (bytes : List ℕ). fine (record { locks = r.locks; atomicity = r.atomicity; report = bytes })) h.1,
+    λ h. typed_judge h.0 d ∙ ap (λ (bytes : List ℕ). Ok (record { locks = r.locks; atomicity = r.atomicity; report = bytes })) h.1,
   )
 
   -- code has one lock set after it, one atomicity and one report at most

@@ -5,11 +5,7 @@
 --     demand2                           demand 2, of judging
 --     accepted_exactly                  a sound file is accepted exactly when a derivation exists
 -- Assumes nothing.
-use Prim.Native.Nat.{ℕ}
-use mathlib.Core.Path.{◌≡◌, refl, subst}
-use mathlib.Core.Logic.{◌↔◌}
-use mathlib.Core.List.{List}
-use Rattle.program.specs.Answer.{fine}
+use Rattle.std.proofs.Common.{ℕ, ◌≡◌, refl, subst, ◌↔◌, List, Ok}
 use Rattle.program.specs.Layout.{Program, program_of, reading}
 use Rattle.program.proofs.Answer.{fine_inj, bind_inv, bind_on}
 use Rattle.program.proofs.Sound.{sound_file}
@@ -24,7 +20,7 @@ use Rattle.judge.proofs.RulesProgram.{program_exactly}
 -- ---- a sound file
 
 -- a sound file's code is well nested
-pub sound_codes_nested : (s : List ℕ) {p : Program} → sound s ≡ fine p → Nested p.codes
+pub sound_codes_nested : (s : List ℕ) {p : Program} → sound s ≡ Ok p → Nested p.codes
 unfolding sound program_of
 sound_codes_nested s {p} e =
     bind_inv (reading s) _ e λ l reads answer.
@@ -35,15 +31,15 @@ sound_codes_nested s {p} e =
 -- ---- an accepted file
 
 -- an accepted file is a sound one whose program is judged fine
-pub accept_judged : (s : List ℕ) (a : Accepted) → (accept s ≡ fine a) ↔ ((sound s ≡ fine a.program) × (judge_program a.program ≡ fine a.report))
+pub accept_judged : (s : List ℕ) (a : Accepted) → (accept s ≡ Ok a) ↔ ((sound s ≡ Ok a.program) × (judge_program a.program ≡ Ok a.report))
 unfolding accept
 accept_judged s a = (
   (λ e.
       bind_inv (sound s) _ e λ p e₁ f₁.
       bind_inv (judge_program p) _ f₁ λ bytes e₂ f₂.
       let f : ◌≡◌ {A = Accepted} (record { program = p; report = bytes }) a = fine_inj _ a f₂ in (
-        subst (λ (x : Accepted). sound s ≡ fine x.program) f e₁,
-        subst (λ (x : Accepted). judge_program x.program ≡ fine x.report) f e₂,
+        subst (λ (x : Accepted). sound s ≡ Ok x.program) f e₁,
+        subst (λ (x : Accepted). judge_program x.program ≡ Ok x.report) f e₂,
       )),
   λ h. bind_on (sound s) _ h.0 (bind_on (judge_program a.program) _ h.1 refl),
 )
@@ -57,8 +53,8 @@ demand2 s a = (
 )
 
 -- a sound file is accepted exactly when a derivation of its program exists
-pub accepted_exactly : (s : List ℕ) (p : Program) → sound s ≡ fine p
-    → ((bytes : List ℕ) × (accept s ≡ fine (record { program = p; report = bytes }))) ↔ TypedProgram p
+pub accepted_exactly : (s : List ℕ) (p : Program) → sound s ≡ Ok p
+    → ((bytes : List ℕ) × (accept s ≡ Ok (record { program = p; report = bytes }))) ↔ TypedProgram p
 unfolding Demand2
 accepted_exactly s p e = (
   (λ h. ((demand2 s (record { program = p; report = h.0 })).0 h.1).1.0),

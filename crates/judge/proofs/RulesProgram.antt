@@ -4,15 +4,11 @@
 --     judged_codes_typed, typed_codes_judged   ... the codes from t on
 --     program_exactly                          a program's report is what its derivation reports
 -- Assumes nothing.
-use Prim.Native.Nat.{ℕ, suc}
-use mathlib.Core.Path.{◌≡◌, refl, sym, ap, ◌∙◌, subst}
-use mathlib.Core.Logic.{◌↔◌}
-use mathlib.Core.List.{List, [], ◌∷◌}
-use Rattle.program.specs.Answer.{Answer, fine}
+use Rattle.std.proofs.Common.{ℕ, suc, ◌≡◌, refl, sym, ap, ◌∙◌, subst, ◌↔◌, List, [], ◌∷◌, None, Ok}
+use Rattle.program.specs.Answer.{Answer}
 use Rattle.program.specs.Code.{structured}
 use Rattle.program.specs.Layout.{Program, CodeSection}
 use Rattle.program.specs.Nesting.{first_broken}
-use Rattle.program.specs.declared.found.Found.TheVariants.{Nowhere}
 use Rattle.program.proofs.Answer.{fine_inj, bind_inv, require_inv, bind_on, require_on}
 use Rattle.program.proofs.Structure.{nested_flat}
 use Rattle.judge.specs.Judging.{judge, judge_code, judge_codes, judge_program}
@@ -24,19 +20,19 @@ use Rattle.judge.proofs.LockSets.{same_eq, same_self}
 use Rattle.judge.proofs.Rules.{judge_typed, typed_judge}
 
 -- a fine answer gives a derivation, and a derivation a fine answer with its report: then it is fine with just what can be reported
-pub exactly : {A B : Type 0} (x : Answer B) (f : A → B) → ((b : B) → x ≡ fine b → A) → ((a : A) → x ≡ fine (f a))
-    → (b : B) → (x ≡ fine b) ↔ ((a : A) × (f a ≡ b))
+pub exactly : {A B : Type 0} (x : Answer B) (f : A → B) → ((b : B) → x ≡ Ok b → A) → ((a : A) → x ≡ Ok (f a))
+    → (b : B) → (x ≡ Ok b) ↔ ((a : A) × (f a ≡ b))
 exactly {A = A} x f derive answer b = (
   (λ e. let a : A = derive b e in (a, fine_inj (f a) b (sym (answer a) ∙ e))),
-  λ h. answer h.0 ∙ ap fine h.1,
+  λ h. answer h.0 ∙ ap Ok h.1,
 )
 
 module _ (p : Program) where
   -- ---- a code
 
   -- judging finds a derivation of a code that is well nested
-  pub judged_code_typed : (t : ℕ) (section : CodeSection) → first_broken 0 section.code [] ≡ Nowhere → {bytes : List ℕ}
-      → judge_code p t section ≡ fine bytes → TypedCode p t section.code
+  pub judged_code_typed : (t : ℕ) (section : CodeSection) → first_broken 0 section.code [] ≡ None → {bytes : List ℕ}
+      → judge_code p t section ≡ Ok bytes → TypedCode p t section.code
   unfolding judge_code
   judged_code_typed t section h e =
       let c = structured section.code in
@@ -49,7 +45,7 @@ module _ (p : Program) where
       }
 
   -- judging a code makes its derivation's report
-  pub typed_code_judged : (t : ℕ) (section : CodeSection) (T : TypedCode p t section.code) → judge_code p t section ≡ fine (code_report T)
+  pub typed_code_judged : (t : ℕ) (section : CodeSection) (T : TypedCode p t section.code) → judge_code p t section ≡ Ok (code_report T)
   unfolding judge_code code_report
   typed_code_judged t section T =
       bind_on (judge p t section.start empty (structured section.code)) _ (typed_judge p t T.typed section.start)
@@ -57,7 +53,7 @@ module _ (p : Program) where
 
   -- ---- the codes from t on
 
-  pub judged_codes_typed : (t : ℕ) (sections : List CodeSection) → Nested sections → {bytes : List ℕ} → judge_codes p t sections ≡ fine bytes
+  pub judged_codes_typed : (t : ℕ) (sections : List CodeSection) → Nested sections → {bytes : List ℕ} → judge_codes p t sections ≡ Ok bytes
       → TypedCodes p t sections
   unfolding judge_codes Nested
   judged_codes_typed t [] h e = typed_none
@@ -66,7 +62,7 @@ module _ (p : Program) where
       bind_inv (judge_codes p (suc t) sections) _ f₁ λ rest e₂ f₂.
       typed_code (judged_code_typed t section h.0 e₁) (judged_codes_typed (suc t) sections h.1 e₂)
 
-  pub typed_codes_judged : {t : ℕ} {sections : List CodeSection} (D : TypedCodes p t sections) → judge_codes p t sections ≡ fine (codes_report D)
+  pub typed_codes_judged : {t : ℕ} {sections : List CodeSection} (D : TypedCodes p t sections) → judge_codes p t sections ≡ Ok (codes_report D)
   unfolding judge_codes codes_report
   typed_codes_judged typed_none = refl
   typed_codes_judged (typed_code {c = t} {section = section} {sections = sections} T D) =
@@ -76,6 +72,6 @@ module _ (p : Program) where
   -- ---- a program
 
   -- a program whose code is well nested is judged fine with just the reports of its derivations
-  pub program_exactly : Nested p.codes → (bytes : List ℕ) → (judge_program p ≡ fine bytes) ↔ ((D : TypedProgram p) × (program_report D ≡ bytes))
+  pub program_exactly : Nested p.codes → (bytes : List ℕ) → (judge_program p ≡ Ok bytes) ↔ ((D : TypedProgram p) × (program_report D ≡ bytes))
   unfolding judge_program
   program_exactly h = exactly (judge_codes p 0 p.codes) codes_report (λ b e. judged_codes_typed 0 p.codes h e) typed_codes_judged

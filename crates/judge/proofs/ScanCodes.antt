@@ -3,17 +3,13 @@
 --     code_agrees     one code
 --     codes_agree     the codes of sections that are well nested
 --     codes_size      how many bytes their reports have
-use Prim.Native.Nat.{ℕ, suc, ◌+◌, ◌*◌}
-use mathlib.Core.Path.{◌≡◌, refl, sym, ◌∙◌, ap}
-use mathlib.Core.List.{List, [], ◌∷◌, append-nil}
-use native.Mathlib.Omega.{arith}
-use lib.ListN.{length, set, length-append}
+use Rattle.std.proofs.Common.{ℕ, suc, ◌+◌, ◌*◌, ◌≡◌, refl, sym, ◌∙◌, ap, List, [], ◌∷◌, append-nil, arith, length, set, length-append, Ok}
 use lib.Seq.{sets}
 use Rattle.atomicity.specs.Atomicity.{report_byte}
 use Rattle.atomicity.specs.declared.Atomicity.{Atomicity}
 use Rattle.atomicity.specs.declared.Atomicity.TheVariants.{Both}
 use Rattle.atomicity.proofs.Laws.{both_then}
-use Rattle.program.specs.Answer.{Answer, fine, ◌>>=◌}
+use Rattle.program.specs.Answer.{Answer, ◌>>=◌}
 use Rattle.program.specs.Code.{size, structured}
 use Rattle.program.specs.Layout.{Program, CodeSection}
 use Rattle.program.specs.Internal.Sound.{report_size}
@@ -46,7 +42,7 @@ module _ (p : Program) where
       require_holds _ (same r.locks empty) _ _ (simp length-append (omega arith)))
 
   pub code_agrees : (t at : ℕ) (report : List ℕ) (section : CodeSection) → Writes section.code (structured section.code)
-      → scan_code p t at report section ≡ (judge_code p t section >>= λ bytes. fine (sets report at bytes))
+      → scan_code p t at report section ≡ (judge_code p t section >>= λ bytes. Ok (sets report at bytes))
   unfolding scan_code judge_code starting scan ending
   code_agrees t at report section w =
       let c = structured section.code in
@@ -62,14 +58,14 @@ module _ (p : Program) where
       require_ext (same r.locks empty) (SetsDiffer end) _ _ (λ _.
       let place : at + n ≡ at + length r.report = omega arith in
       let last = report_byte r.atomicity in
-      ap (λ (a : Atomicity). fine (set (sets report at r.report) (at + n) (report_byte a))) (both_then r.atomicity)
-      ∙ ap (λ (k : ℕ). fine (set (sets report at r.report) k last)) place
-      ∙ ap (λ (bytes : List ℕ). fine bytes) (sym (sets-append report at r.report (last ∷ []))))
+      ap (λ (a : Atomicity). Ok (set (sets report at r.report) (at + n) (report_byte a))) (both_then r.atomicity)
+      ∙ ap (λ (k : ℕ). Ok (set (sets report at r.report) k last)) place
+      ∙ ap (λ (bytes : List ℕ). Ok bytes) (sym (sets-append report at r.report (last ∷ []))))
       ∙ sym (require_bind (same r.locks empty) (SetsDiffer end) _ _))
       ∙ sym (bind_assoc (judge p t section.start empty c) _ _)
 
   pub codes_agree : (t at : ℕ) (report : List ℕ) (sections : List CodeSection) → Nested sections
-      → scan_codes p t at report sections ≡ (judge_codes p t sections >>= λ bytes. fine (sets report at bytes))
+      → scan_codes p t at report sections ≡ (judge_codes p t sections >>= λ bytes. Ok (sets report at bytes))
   unfolding scan_codes judge_codes Nested
   codes_agree t at report [] w = refl
   codes_agree t at report (section ∷ sections) w =
@@ -81,8 +77,8 @@ module _ (p : Program) where
       let place : next ≡ at + length bytes = omega arith in
       codes_agree (suc t) next (sets report at bytes) sections w.1
       ∙ bind_ext (judge_codes p (suc t) sections) _ _ (λ more _.
-      ap (λ (k : ℕ). fine (sets (sets report at bytes) k more)) place
-      ∙ ap (λ (left : List ℕ). fine left) (sym (sets-append report at bytes more)))
+      ap (λ (k : ℕ). Ok (sets (sets report at bytes) k more)) place
+      ∙ ap (λ (left : List ℕ). Ok left) (sym (sets-append report at bytes more)))
       ∙ sym (bind_assoc (judge_codes p (suc t) sections) _ _))
       ∙ sym (bind_assoc (judge_code p t section) _ _)
 

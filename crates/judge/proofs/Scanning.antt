@@ -5,20 +5,14 @@
 --     done_agrees, plain_agrees, choice_agrees, loop_agrees, block_agrees
 --                              each construct
 --     scan_agrees              any code
-use Prim.Native.Nat.{ℕ, suc, ◌+◌, ◌*◌}
-use mathlib.Core.Path.{◌≡◌, refl, sym, ◌∙◌, ap}
-use mathlib.Core.Bool.{Bool, true, false, not}
-use mathlib.Core.List.{List, ◌∷◌, ◌++◌, append_assoc}
-use native.Mathlib.Omega.{arith}
-use lib.ListN.{length, set, length-append}
+use Rattle.std.proofs.Common.{ℕ, suc, ◌+◌, ◌*◌, ◌≡◌, refl, sym, ◌∙◌, ap, Bool, true, false, not, List, ◌∷◌, ◌++◌, append_assoc, arith, length, set, length-append, Ok}
 use lib.Seq.{sets}
 use Rattle.atomicity.specs.Atomicity.{report_byte, composition, join, closure}
 use Rattle.atomicity.specs.declared.Atomicity.{Atomicity}
 use Rattle.atomicity.specs.declared.Atomicity.TheVariants.{Both}
 use Rattle.atomicity.proofs.Laws.{then_assoc, both_then, then_both}
 use Rattle.program.specs.View.{access_of, form_of, statement_of}
-use Rattle.program.specs.Answer.{Answer, fine, ◌>>=◌, require}
-use Rattle.program.specs.Choice.{choose}
+use Rattle.program.specs.Answer.{Answer, ◌>>=◌, require}
 use Rattle.program.specs.Code.{Code, done, plain, choice, loop, block, size}
 use Rattle.program.specs.Layout.{Program}
 use Rattle.program.specs.Internal.WellFormed.{flat, WellFormed}
@@ -31,15 +25,15 @@ use Rattle.judge.specs.Discipline.{lock_set_after, atomicity_of, mover_of}
 use Rattle.judge.specs.Judging.{Finding, judge, is_top, states_truly}
 use Rattle.judge.specs.LockSet.{same}
 use Rattle.judge.specs.Internal.Effect.{form_effect, effect_of}
-use Rattle.judge.specs.Internal.Scan.{Carried, carried, opened_frame, other_part, end_of, closed, opened, applied, scan}
+use Rattle.judge.specs.Internal.Scan.{Carried, carried, opened_frame, other_part, end_of, closed, applied, scan}
 use Rattle.judge.specs.declared.frame.Frame.{Frame}
 use Rattle.judge.specs.declared.frame.Part.{Part}
 use Rattle.judge.specs.declared.frame.Part.TheVariants as part
 use Rattle.judge.specs.declared.lock_set.LockSet.{LockSet}
 use Rattle.judge.specs.declared.effect.Effect.{Effect}
-use Rattle.judge.specs.declared.effect.Effect.TheVariants.{Closes}
+use Rattle.judge.specs.declared.effect.Effect.TheVariants.{Opens, Closes}
 use Rattle.judge.specs.declared.frame.Closed.{Closed}
-use Rattle.judge.specs.declared.frame.Closed.TheVariants.{Whole, Refused}
+use Rattle.judge.specs.declared.frame.Closed.TheVariants.{Whole}
 use Rattle.judge.proofs.Effects.{access_applied, plain_effect}
 use Rattle.judge.proofs.LockSets.{same_eq}
 use Rattle.judge.proofs.Reports.{sets-parts, sets-closed}
@@ -99,7 +93,7 @@ module _ (p : Program) (t : ℕ) where
       → WellFormed c
       → d + 4 * size c ≡ m → at' + size c ≡ n → ((v : List ℕ) → sets report' at' v ≡ sets report at (whole v))
       → scan p t d at' (carried s (composition a b) fs report') (flat c ++ rest)
-      ≡ ((judge p t d s c >>= λ r. fine (record { locks = r.locks; atomicity = composition b r.atomicity; report = whole r.report }))
+      ≡ ((judge p t d s c >>= λ r. Ok (record { locks = r.locks; atomicity = composition b r.atomicity; report = whole r.report }))
       >>= λ r. scan p t m n (carried_after at a fs report r) rest)
   then_agrees c next d m at at' n s a b fs report report' whole rest w e₁ e₂ e₃ =
       next d at' s (composition a b) fs report' rest w
@@ -114,10 +108,11 @@ module _ (p : Program) (t : ℕ) where
   plain_agrees i c next d at s a fs report rest w =
       let b = atomicity_of p t s i in
       let report' = set report at (report_byte b) in
-      let step : applied (effect_of p t d i s) d at (carried s a fs report) ≡ (lock_set_after p t d i s >>= λ s'. fine (carried s' (composition a b) fs report')) =
-      ap (λ (e : Effect). applied e d at (carried s a fs report)) (plain_effect p t d i s w.0) ∙ access_applied d at s a fs report p t (access_of i) in
-      ap (λ (m : Answer Carried). m >>= λ y. scan p t (d + 4) (suc at) y (flat c ++ rest)) step
-      ∙ (bind_assoc (lock_set_after p t d i s) (λ s'. fine (carried s' (composition a b) fs report')) (λ y. scan p t (d + 4) (suc at) y (flat c ++ rest))
+      let step : (effect_of p t d i s >>= λ e. applied e d at (carried s a fs report)) ≡ (lock_set_after p t d i s >>= λ s'. Ok (carried s' (composition a b) fs report')) =
+      ap (λ (m : Answer Effect). m >>= λ e. applied e d at (carried s a fs report)) (plain_effect p t d i s w.0) ∙ access_applied d at s a fs report p t (access_of i) in
+      sym (bind_assoc (effect_of p t d i s) _ _)
+      ∙ ap (λ (m : Answer Carried). m >>= λ y. scan p t (d + 4) (suc at) y (flat c ++ rest)) step
+      ∙ (bind_assoc (lock_set_after p t d i s) (λ s'. Ok (carried s' (composition a b) fs report')) (λ y. scan p t (d + 4) (suc at) y (flat c ++ rest))
       ∙ bind_ext (lock_set_after p t d i s) _ _ (λ s' e.
       then_agrees c next (d + 4) (d + 4 * size (plain i c)) at (suc at) (at + size (plain i c)) s' a b fs report report'
       (λ v. report_byte b ∷ v) rest w.1 (omega arith) (omega arith) (λ v. refl))
@@ -125,9 +120,9 @@ module _ (p : Program) (t : ℕ) where
 
   -- past an opener
   scan_opener : (part : Part) (d at : ℕ) (i : Instruction) (is : List Instruction) (s : LockSet) (a : Atomicity) (fs : List Frame)
-      (report : List ℕ) → applied (effect_of p t d i s) d at (carried s a fs report) ≡ opened part at (carried s a fs report)
+      (report : List ℕ) → effect_of p t d i s ≡ Ok (Opens part)
       → scan p t d at (carried s a fs report) (i ∷ is) ≡ scan p t (d + 4) (suc at) (carried s Both (opened_frame part at s a ∷ fs) report) is
-  unfolding scan
+  unfolding scan applied
   scan_opener part d at i is s a fs report e = rw e
 
   -- over the part that an opener opens
@@ -140,38 +135,37 @@ module _ (p : Program) (t : ℕ) where
       ∙ bind_ext (judge p t d s c) _ _ (λ r e. rw (both_then r.atomicity))
 
   -- a test of a closer
-  closer_test : (ok : Bool) (refusal : Refusal) (x : Closed) (f : Frame) (s : LockSet) (a : Atomicity) (fs : List Frame)
+  closer_test : (ok : Bool) (refusal : Refusal) (m : Answer Closed) (f : Frame) (s : LockSet) (a : Atomicity) (fs : List Frame)
       (report : List ℕ) (go : Carried → Answer Carried)
-      → (closed (choose ok x (Refused refusal)) f s a fs report >>= go) ≡ require ok refusal (closed x f s a fs report >>= go)
-  unfolding closed
-  closer_test true refusal x f s a fs report go = refl
-  closer_test false refusal x f s a fs report go = refl
+      → ((require ok refusal m >>= λ b. Ok (closed b f s a fs report)) >>= go) ≡ require ok refusal ((m >>= λ b. Ok (closed b f s a fs report)) >>= go)
+  closer_test true refusal m f s a fs report go = refl
+  closer_test false refusal m f s a fs report go = refl
 
   -- past a closer whose construct has atomicity b, if it passes its test
   scan_closer : (ok : Bool) (refusal : Refusal) (d at : ℕ) (s : LockSet) (a b : Atomicity) (f : Frame) (fs : List Frame)
-      (report : List ℕ) (go : Carried → Answer Carried) → end_of f.part d f s a ≡ choose ok (Whole b) (Refused refusal)
+      (report : List ℕ) (go : Carried → Answer Carried) → end_of f.part d f s a ≡ require ok refusal (Ok (Whole b))
       → (applied Closes d at (carried s a (f ∷ fs) report) >>= go)
       ≡ require ok refusal (go (carried s (composition f.before b) fs (set (set report at 0) f.opener (report_byte b))))
-  unfolding applied closed
-  scan_closer ok refusal d at s a b f fs report go e = rw e (closer_test ok refusal (Whole b) f s a fs (set report at 0) go)
+  unfolding applied
+  scan_closer ok refusal d at s a b f fs report go e = rw e (closer_test ok refusal (Ok (Whole b)) f s a fs (set report at 0) go)
 
   -- past the END of a block, if it passes both tests
   scan_block_end : (stated d at at₀ : ℕ) (s s₀ : LockSet) (a a₀ : Atomicity) (fs : List Frame) (report : List ℕ) (go : Carried → Answer Carried)
       → (applied Closes d at (carried s a (opened_frame (part.Block stated) at₀ s₀ a₀ ∷ fs) report) >>= go)
       ≡ require (not (is_top a)) (NotAtomic d) (require (states_truly stated a) (FalseStatement d)
       (go (carried s (composition a₀ a) fs (set (set report at 0) at₀ (report_byte a)))))
-  unfolding applied closed
+  unfolding applied
   scan_block_end stated d at at₀ s s₀ a a₀ fs report go =
       let f = opened_frame (part.Block stated) at₀ s₀ a₀ in
-      closer_test (not (is_top a)) (NotAtomic d) (choose (states_truly stated a) (Whole a) (Refused (FalseStatement d))) f s a fs (set report at 0) go
+      closer_test (not (is_top a)) (NotAtomic d) (require (states_truly stated a) (FalseStatement d) (Ok (Whole a))) f s a fs (set report at 0) go
       ∙ ap (λ (m : Answer Carried). require (not (is_top a)) (NotAtomic d) m)
-      (closer_test (states_truly stated a) (FalseStatement d) (Whole a) f s a fs (set report at 0) go)
+      (closer_test (states_truly stated a) (FalseStatement d) (Ok (Whole a)) f s a fs (set report at 0) go)
 
   -- past an ELSE
   scan_else : (d at at₀ : ℕ) (s s₀ : LockSet) (a a₀ : Atomicity) (fs : List Frame) (report : List ℕ)
       → applied Closes d at (carried s a (opened_frame part.Then at₀ s₀ a₀ ∷ fs) report)
-      ≡ fine (carried s₀ Both (other_part (opened_frame part.Then at₀ s₀ a₀) s a ∷ fs) (set report at 0))
-  unfolding applied closed
+      ≡ Ok (carried s₀ Both (other_part (opened_frame part.Then at₀ s₀ a₀) s a ∷ fs) (set report at 0))
+  unfolding applied
   scan_else d at at₀ s s₀ a a₀ fs report = refl
 
   -- what follows a construct whose closer has its byte at at₁, with the bytes `inside` between opener and closer
@@ -181,7 +175,7 @@ module _ (p : Program) (t : ℕ) where
       → d + 4 * size c ≡ m → suc at₁ + size c ≡ n → at₁ ≡ suc at + length inside
       → scan p t d (suc at₁)
       (carried s (composition a b) fs (set (set (sets report (suc at) inside) at₁ 0) at (report_byte b))) (flat c ++ rest)
-      ≡ ((judge p t d s c >>= λ r. fine (record
+      ≡ ((judge p t d s c >>= λ r. Ok (record
       { locks = r.locks; atomicity = composition b r.atomicity; report = report_byte b ∷ (inside ++ 0 ∷ r.report) }))
       >>= λ r. scan p t m n (carried_after at a fs report r) rest)
   construct_agrees c next d m at at₁ n s a b fs report inside rest w e₁ e₂ e₃ =
@@ -251,7 +245,7 @@ module _ (p : Program) (t : ℕ) where
       ∙ part_agrees one first (d + 4) (suc at) s (opened_frame part.Then at s a ∷ fs) report more w.0
       ∙ bind_ext (judge p t (d + 4) s one) _ _ (λ r e.
       let n = holds_fine _ (judge p t (d + 4) s one) r (report_size_lem one (d + 4) s) e in
-      let frame : Frame = record { part = part.Else; opener = at; locks = r.locks; first = r.atomicity; before = a } in
+      let frame : Frame = record { part = part.Else r.atomicity; opener = at; locks = r.locks; before = a } in
       let report₁ = set (sets report (suc at) r.report) at₁ 0 in
       ap (λ (m : Answer Carried). m >>= λ y. scan p t (d₁ + 4) (suc at₁) y (flat two ++ last))
       (scan_else d₁ at₁ at r.locks s r.atomicity a fs (sets report (suc at) r.report))

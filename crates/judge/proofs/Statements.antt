@@ -7,24 +7,17 @@
 --     code_agrees, codes_true
 --                           of a code, of the codes from one on
 --     statements_true       of an accepted file
-use Prim.Native.Nat.{ℕ, zero, suc, ◌+◌, ◌<◌}
-use mathlib.Core.Path.{◌≡◌, refl, sym, ap, ◌∙◌, subst}
-use mathlib.Core.Logic.{inl, inr}
-use mathlib.Core.List.{List, [], ◌∷◌, ◌++◌, append_assoc}
-use lib.ListN.{length, get_or, drop}
+use Rattle.std.proofs.Common.{ℕ, zero, suc, ◌+◌, ◌<◌, ◌≡◌, refl, sym, ap, ◌∙◌, subst, inl, inr, List, [], ◌∷◌, ◌++◌, append_assoc, length, get_or, drop, arith, None, Ok}
 use lib.Seq.{drop-append-add}
-use native.Mathlib.Omega.{arith}
 use Rattle.atomicity.specs.Atomicity.{report_byte}
 use Rattle.atomicity.specs.declared.Atomicity.{Atomicity}
 use Rattle.program.proofs.Structure.{nested_flat}
 use Rattle.program.proofs.Differ.{differ}
-use Rattle.program.specs.Answer.{fine}
 use Rattle.program.specs.Code.{Code, size}
 use Rattle.program.specs.Layout.{Program, CodeSection}
 use Rattle.program.specs.Nesting.{first_broken}
 use Rattle.program.specs.View.{View, own, shares, nests, states, Plain, view_of, form_in, form_of, statement_in, statement_of}
 use Rattle.program.specs.Internal.WellFormed.{flat}
-use Rattle.program.specs.declared.found.Found.TheVariants.{Nowhere}
 use Rattle.program.specs.declared.instruction.Instruction.{Instruction}
 use Rattle.program.specs.declared.instruction.Instruction.TheVariants.{Else, Atomic, End}
 use Rattle.judge.specs.Acceptance.{Accepted, accept}
@@ -96,7 +89,7 @@ module _ {p : Program} {c : ℕ} where
 -- ---- codes
 
 module _ {p : Program} where
-  code_agrees : {c : ℕ} (code : List Instruction) → first_broken 0 code [] ≡ Nowhere → (D : TypedCode p c code) → Agree code (report D.typed)
+  code_agrees : {c : ℕ} (code : List Instruction) → first_broken 0 code [] ≡ None → (D : TypedCode p c code) → Agree code (report D.typed)
   code_agrees code nested D = subst (λ (is : List Instruction). Agree is (report D.typed)) (nested_flat code nested).flat_is (typed_agrees D.typed)
 
   codes_true : {c : ℕ} (sections : List CodeSection) → Nested sections → (D : TypedCodes p c sections) → AllTrue sections (codes_report D)
@@ -115,7 +108,7 @@ module _ {p : Program} where
 
 -- ---- a file
 
-pub statements_true : (s : List ℕ) (a : Accepted) → accept s ≡ fine a → AllTrue a.program.codes a.report
+pub statements_true : (s : List ℕ) (a : Accepted) → accept s ≡ Ok a → AllTrue a.program.codes a.report
 unfolding Demand2
 statements_true s a e =
     let (is_sound, derived) = (demand2 s a).0 e in

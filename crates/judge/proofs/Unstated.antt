@@ -9,23 +9,18 @@
 --                              ... a code, the codes from one on, a program
 --     sound_unstated           a sound file without its statements is sound
 --     report_unstated          its report, unless it is refused with 18
-use Prim.Native.Nat.{ℕ, suc, ◌+◌, ◌*◌}
-use mathlib.Core.Path.{◌≡◌, refl, sym, ap, ◌∙◌, subst}
-use mathlib.Core.Logic.{◌≢◌}
-use mathlib.Core.Bool.{Bool, true, false, not}
-use mathlib.Core.List.{List, [], ◌∷◌, map}
+use Rattle.std.proofs.Common.{ℕ, suc, ◌+◌, ◌*◌, ◌≡◌, refl, sym, ap, ◌∙◌, subst, ◌≢◌, Bool, true, false, not, List, [], ◌∷◌, map, None, Ok, Err}
 use lib.ListN.{length-map}
 use Rattle.program.proofs.Answer.{bind_inv, bind_on, fine_inj}
 use Rattle.program.proofs.Unstated.{size_unstated, written_unstated, structured_unstated}
 use Rattle.program.proofs.UnstatedFile.{file_cleared}
-use Rattle.program.specs.Answer.{Answer, fine, refused, ◌>>=◌, require}
+use Rattle.program.specs.Answer.{Answer, ◌>>=◌, require}
 use Rattle.program.specs.Code.{Code, done, plain, choice, loop, block, size, structured}
 use Rattle.program.specs.Layout.{Program, CodeSection, reading}
 use Rattle.program.specs.Nesting.{first_broken}
 use Rattle.program.specs.Unstated.{without_statements}
 use Rattle.program.specs.View.{Access, none, reads, writes, takes, gives, access_of}
 use Rattle.program.specs.Internal.Unstated.{unstated, unstated_code, unstated_section, unstated_program}
-use Rattle.program.specs.declared.found.Found.TheVariants.{Nowhere}
 use Rattle.program.specs.declared.instruction.Instruction.{Instruction}
 use Rattle.program.specs.declared.refusal.Refusal.{Refusal}
 use Rattle.program.specs.declared.refusal.Refusal.TheVariants.{FalseStatement}
@@ -43,11 +38,11 @@ use Rattle.judge.proofs.RulesFile.{sound_codes_nested}
 -- the same, unless the first is refused with 18
 pub data AlikeBut18 {A : Type 0} (m n : Answer A) : Type 0 where
   alike : m ≡ n → AlikeBut18 m n
-  eighteen : (d : ℕ) → m ≡ refused (FalseStatement d) → AlikeBut18 m n
+  eighteen : (d : ℕ) → m ≡ Err (FalseStatement d) → AlikeBut18 m n
 
 alike_bind : {A B : Type 0} (m n : Answer A) (f g : A → Answer B) → AlikeBut18 m n → ((a : A) → AlikeBut18 (f a) (g a)) → AlikeBut18 (m >>= f) (n >>= g)
-alike_bind (fine a) n f g (alike e) h = subst (λ n. AlikeBut18 (f a) (n >>= g)) e (h a)
-alike_bind (refused r) n f g (alike e) h = alike (ap (λ n. n >>= g) e)
+alike_bind (Ok a) n f g (alike e) h = subst (λ n. AlikeBut18 (f a) (n >>= g)) e (h a)
+alike_bind (Err r) n f g (alike e) h = alike (ap (λ n. n >>= g) e)
 alike_bind m n f g (eighteen d e) h = eighteen d (ap (λ m. m >>= f) e)
 
 alike_require : {A : Type 0} (ok : Bool) (r : Refusal) (m n : Answer A) → AlikeBut18 m n → AlikeBut18 (require ok r m) (require ok r n)
@@ -121,7 +116,7 @@ module _ (p : Program) where
 
   -- ---- codes
 
-  code_unstated : (c : ℕ) (section : CodeSection) → first_broken 0 section.code [] ≡ Nowhere
+  code_unstated : (c : ℕ) (section : CodeSection) → first_broken 0 section.code [] ≡ None
       → AlikeBut18 (judge_code p c section) (judge_code bare c (unstated_section section))
   unfolding judge_code
   code_unstated c section nested =
@@ -144,19 +139,19 @@ module _ (p : Program) where
 
 -- ---- a file
 
-pub sound_unstated : (s : List ℕ) (p : Program) → sound s ≡ fine p → sound (without_statements s) ≡ fine (unstated_program p)
+pub sound_unstated : (s : List ℕ) (p : Program) → sound s ≡ Ok p → sound (without_statements s) ≡ Ok (unstated_program p)
 unfolding sound
 sound_unstated s p e =
     bind_inv (reading s) _ e λ l reads answer.
     let (same, program) = file_cleared s l reads in
-    bind_on (reading (without_statements s)) _ same (ap fine (program ∙ ap unstated_program (fine_inj _ p answer)))
+    bind_on (reading (without_statements s)) _ same (ap Ok (program ∙ ap unstated_program (fine_inj _ p answer)))
 
 -- the report of a sound file, or its refusal, unless that is 18
-pub report_unstated : (s : List ℕ) (p : Program) → sound s ≡ fine p → ((d : ℕ) → accept s ≢ refused (FalseStatement d))
+pub report_unstated : (s : List ℕ) (p : Program) → sound s ≡ Ok p → ((d : ℕ) → accept s ≢ Err (FalseStatement d))
     → judge_program (unstated_program p) ≡ judge_program p
 unfolding accept
 report_unstated s p e other = cases (program_unstated p (sound_codes_nested s e))
   where
     cases : AlikeBut18 (judge_program p) (judge_program (unstated_program p)) → judge_program (unstated_program p) ≡ judge_program p
     cases (alike same) = sym same
-    cases (eighteen d found) = absurd (other d (bind_on (sound s) _ e (ap (λ (m : Answer (List ℕ)). m >>= λ report. fine (record { program = p; report = report })) found)))
+    cases (eighteen d found) = absurd (other d (bind_on (sound s) _ e (ap (λ (m : Answer (List ℕ)). m >>= λ report. Ok (record { program = p; report = report })) found)))

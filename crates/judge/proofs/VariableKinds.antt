@@ -1,8 +1,6 @@
 -- The kind of a variable, found in the file. Assumes nothing.
 --     kind_in    a variable of the file: what its record says
-use Prim.Native.Nat.{ℕ, ◌<◌}
-use mathlib.Core.Path.{◌≡◌, ap}
-use mathlib.Core.List.{List}
+use Rattle.std.proofs.Common.{ℕ, ◌<◌, ◌≡◌, ap, List}
 use Rattle.program.specs.Layout.{program_of}
 use Rattle.program.specs.Limits.{records_start, record_offset}
 use Rattle.program.specs.Variable.{Variable, kind_of, record_at, variable_at}

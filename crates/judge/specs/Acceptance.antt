@@ -1,6 +1,6 @@
 -- Sound and accepted files (the standard, "Who can bring a number about").
-use Rattle.std.specs.Prelude.{ℕ, List}
-use Rattle.program.specs.Answer.{Answer, fine, ◌>>=◌}
+use Rattle.std.specs.Prelude.{ℕ, List, Ok}
+use Rattle.program.specs.Answer.{Answer, ◌>>=◌}
 use Rattle.program.specs.Layout.{Program, program_of, reading}
 use Rattle.judge.specs.Judging.{judge_program}
 
@@ -8,7 +8,7 @@ use Rattle.judge.specs.Judging.{judge_program}
 unfoldable pub sound : List ℕ → Answer Program
 sound s = do
   l ← reading s
-  fine (program_of s l)
+  Ok (program_of s l)
 
 -- an accepted file: its program and its report
 pub record Accepted : Type 0 where
@@ -20,4 +20,4 @@ unfoldable pub accept : List ℕ → Answer Accepted
 accept s = do
   p ← sound s
   report ← judge_program p
-  fine (record { program = p; report = report })
+  Ok (record { program = p; report = report })

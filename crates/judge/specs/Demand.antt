@@ -1,7 +1,6 @@
 -- Demand 2, of judging (the standard, "What is promised": "A sound file is accepted exactly when the rules .. hold of it, and then the
 -- report is what they give"). That running is the step machine is what run's contract says.
-use Rattle.std.specs.Prelude.{ℕ, ◌≡◌, ◌↔◌, List}
-use Rattle.program.specs.Answer.{fine}
+use Rattle.std.specs.Prelude.{ℕ, ◌≡◌, ◌↔◌, List, Ok}
 use Rattle.judge.specs.Acceptance.{Accepted, sound, accept}
 use Rattle.judge.specs.Rules.{TypedProgram, program_report}
 
@@ -10,4 +9,4 @@ abbrev pub Derives : Accepted → Type 0
 Derives a = (derivation : TypedProgram a.program) × (program_report derivation ≡ a.report)
 
 unfoldable pub Demand2 : List ℕ → Type 0
-Demand2 file = (a : Accepted) → (accept file ≡ fine a) ↔ ((sound file ≡ fine a.program) × Derives a)
+Demand2 file = (a : Accepted) → (accept file ≡ Ok a) ↔ ((sound file ≡ Ok a.program) × Derives a)

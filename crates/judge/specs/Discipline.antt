@@ -1,10 +1,10 @@
 -- What an instruction that is no opener or closer may do, what it does to the lock set, and its atomicity (the standard, "Lock
 -- discipline", "Atomicities"; "Who can bring a number about": 9, 10, 11).
-use Rattle.std.specs.Prelude.{ℕ, Bool, true, false, not, ◌||◌, get_or, eqb}
+use Rattle.std.specs.Prelude.{ℕ, Bool, true, false, not, ◌||◌, get_or, eqb, Ok}
 use Rattle.atomicity.specs.declared.Atomicity.{Atomicity}
 use Rattle.atomicity.specs.declared.Atomicity.TheVariants as atomicity
 use Rattle.program.specs.View.{Access, none, reads, writes, takes, gives, access_of}
-use Rattle.program.specs.Answer.{Answer, fine, require}
+use Rattle.program.specs.Answer.{Answer, require}
 use Rattle.program.specs.Choice.{choose}
 use Rattle.program.specs.Layout.{Program}
 use Rattle.program.specs.Writers.{written_by_other}
@@ -29,11 +29,11 @@ permits Open c s is_write = true
 
 -- the lock set after an access of code c at file offset d, or what it offends. "TAKE adds its lock, GIVE takes it out"
 unfoldable pub accessed_set : Program → (c d : ℕ) → Access → LockSet → Answer LockSet
-accessed_set p c d none s = fine s
-accessed_set p c d (reads v) s = require (permits (kind_at p v) c s false) (refusal.Access d) (fine s)
-accessed_set p c d (writes v a) s = require (permits (kind_at p v) c s true) (refusal.Access d) (fine s)
-accessed_set p c d (takes k) s = require (not (holds s k)) (refusal.Taken d) (fine (with_lock s k))
-accessed_set p c d (gives k) s = require (holds s k) (refusal.NotTaken d) (fine (without_lock s k))
+accessed_set p c d none s = Ok s
+accessed_set p c d (reads v) s = require (permits (kind_at p v) c s false) (refusal.Access d) (Ok s)
+accessed_set p c d (writes v a) s = require (permits (kind_at p v) c s true) (refusal.Access d) (Ok s)
+accessed_set p c d (takes k) s = require (not (holds s k)) (refusal.Taken d) (Ok (with_lock s k))
+accessed_set p c d (gives k) s = require (holds s k) (refusal.NotTaken d) (Ok (without_lock s k))
 
 unfoldable pub lock_set_after : Program → (c d : ℕ) → Instruction → LockSet → Answer LockSet
 lock_set_after p c d i s = accessed_set p c d (access_of i) s

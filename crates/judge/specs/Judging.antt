@@ -1,10 +1,10 @@
 -- The rules of judging over structured code, in reading order (the standard, "Lock discipline", "Atomicities";
 -- "Who can bring a number about": the writer's part), and the report.
-use Rattle.std.specs.Prelude.{ℕ, suc, ◌+◌, ◌*◌, Bool, not, ◌||◌, List, [], ◌∷◌, ◌++◌, length, eqb}
+use Rattle.std.specs.Prelude.{ℕ, suc, ◌+◌, ◌*◌, Bool, not, ◌||◌, List, [], ◌∷◌, ◌++◌, length, eqb, Ok}
 use Rattle.atomicity.specs.Atomicity.{report_byte, composition, join, closure}
 use Rattle.atomicity.specs.declared.Atomicity.{Atomicity}
 use Rattle.atomicity.specs.declared.Atomicity.TheVariants.{Both, Top}
-use Rattle.program.specs.Answer.{Answer, fine, ◌>>=◌, ◌>>◌, require}
+use Rattle.program.specs.Answer.{Answer, ◌>>=◌, ◌>>◌, require}
 use Rattle.program.specs.Code.{Code, done, plain, choice, loop, block, size, structured}
 use Rattle.program.specs.Layout.{Program, CodeSection}
 use Rattle.program.specs.Limits.{instruction_size}
@@ -34,13 +34,13 @@ closer_at d a = d + instruction_size + instruction_size * size a
 -- a construct of atomicity a composed with what follows it: its byte, the bytes inside it, and those that follow
 abbrev pub followed : Atomicity → (inside : List ℕ → List ℕ) → Finding → Answer Finding
 followed a inside rest =
-    fine (record { locks = rest.locks; atomicity = composition a rest.atomicity; report = report_byte a ∷ inside rest.report })
+    Ok (record { locks = rest.locks; atomicity = composition a rest.atomicity; report = report_byte a ∷ inside rest.report })
 
 -- code c from the instruction at file offset d on, begun with the lock set s. "A sequence composes its parts; an empty one
 -- is B. IF is the join of its two parts. WHILE is the closure of its body. ATOMIC has its body's atomicity". The report has "0 for
 -- ELSE, AGAIN and END; the whole construct's at its opener"
 unfoldable pub judge : Program → (c d : ℕ) → LockSet → Code → Answer Finding
-judge p c d s done = fine (record { locks = s; atomicity = Both; report = [] })
+judge p c d s done = Ok (record { locks = s; atomicity = Both; report = [] })
 judge p c d s (plain i next) = do
   s' ← lock_set_after p c d i s
   rest ← judge p c (d + instruction_size) s' next
@@ -68,15 +68,15 @@ unfoldable pub judge_code : Program → (c : ℕ) → CodeSection → Answer (Li
 judge_code p c section = do
   whole ← judge p c section.start empty (structured section.code)
   require (same whole.locks empty) (SetsDiffer (section.start + instruction_size * length section.code))
-  fine (whole.report ++ report_byte whole.atomicity ∷ [])
+  Ok (whole.report ++ report_byte whole.atomicity ∷ [])
 
 -- "threads in order": the codes from c on
 unfoldable pub judge_codes : Program → (c : ℕ) → List CodeSection → Answer (List ℕ)
-judge_codes p c [] = fine []
+judge_codes p c [] = Ok []
 judge_codes p c (section ∷ sections) = do
   report ← judge_code p c section
   reports ← judge_codes p (suc c) sections
-  fine (report ++ reports)
+  Ok (report ++ reports)
 
 -- the report of a sound file's program, or the first offence of its writer
 unfoldable pub judge_program : Program → Answer (List ℕ)

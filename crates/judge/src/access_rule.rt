@@ -1,42 +1,29 @@
 // What a variable asks of a code that reads or writes it (the standard, "Lock discipline": "A guarded variable is read or written only
-// with its lock in the set; .."; "Rules"), as a byte, worked out once for each code.
-ghost use Rattle.std.specs.Prelude.{◌≡◌, false, true, ◌^◌, ◌<◌, length};
+// with its lock in the set; .."; "Rules"), worked out once for each code.
+ghost use Rattle.std.specs.Prelude.{◌≡◌, ◌^◌, ◌<◌};
+ghost use Rattle.std.proofs.Props.{props};
 ghost use Rattle.program.specs.Choice.{choose};
 ghost use Rattle.program.specs.Layout.{program_of};
-ghost use Rattle.program.specs.Limits.{variable_limit};
 ghost use Rattle.program.specs.Internal.Bounds.{code_limit};
 ghost use Rattle.program.specs.Internal.Marks.{besides, writer_table};
-ghost use Rattle.program.specs.Internal.Sound.{SoundFile};
-ghost use Rattle.judge.specs.Internal.Rule.{free, never, rule_of, single, RuleTables};
+ghost use Rattle.judge.specs.Internal.Rule.{rule_of, RuleTables};
+ghost use Rattle.judge.specs.declared.access_rule.Rule.TheVariants.{Free, Never};
 
-use program::layout::Layout;
 use program::limits::{RECORDS_START, VARIABLE_LIMIT, VARIABLE_SIZE};
+use program::sections::ProgramFile;
 use program::variable::{Kind, kind_at};
 
-// The access is B. Below 16 stands the lock that is to be held, and then the access is B too.
-pub const FREE: u8 = 16;
-
-// The access is A.
-pub const SINGLE: u8 = 17;
-
-pub const NEVER: u8 = 18;
-
-fn free_if(good: bool) -> u8
-    ensures { result ≡ choose good free never }
-{
-    if good {
-        return FREE;
-    }
-    NEVER
-}
-
-fn single_if(races: bool) -> u8
-    ensures { result ≡ choose races single free }
-{
-    if races {
-        return SINGLE;
-    }
-    FREE
+// Of the READs of a variable by a code, or of its WRITEs.
+#[derive(Clone, Copy)]
+pub enum Rule {
+    // The access is B.
+    Free,
+    // The access is B, and this lock is to be held.
+    Locked(u8),
+    // The access is A.
+    Single,
+    // No access keeps the discipline.
+    Never,
 }
 
 // Whether another thread's code has a WRITE of a variable, by the bits of its writers.
@@ -48,37 +35,68 @@ fn written_by_other(writers: u8, code: usize) -> bool
     (writers | own) != own
 }
 
-// An access of a variable of this kind. That it may race counts for an open one only; a WRITE of one always may.
-fn rule_of(kind: Kind, code: usize, writing: bool, races: bool) -> u8
-    ensures { result ≡ rule_of kind code writing races }
-{
-    match kind {
-        Kind::Guarded(g) => g,
-        Kind::Own(g) => free_if((g as usize) == code),
-        Kind::Fixed => free_if(!writing),
-        Kind::Open => single_if(races),
+impl Rule {
+    fn free_if(good: bool) -> Rule
+        ensures { result ≡ choose good Free Never }
+    {
+        if good { Rule::Free } else { Rule::Never }
+    }
+
+    // For a variable of this kind. That an access may race counts for an open one only; a WRITE of one always may. (`writing` is a fact of the
+    // access, as in the definition, and chooses no step.)
+    fn of(kind: Kind, code: usize, writing: bool, races: bool) -> Rule
+        ensures { result ≡ rule_of kind code writing races }
+    {
+        match kind {
+            Kind::Guarded(g) => Rule::Locked(g),
+            Kind::Own(g) => Rule::free_if(usize::from(g) == code),
+            Kind::Fixed => Rule::free_if(!writing),
+            Kind::Open => if races { Rule::Single } else { Rule::Free },
+        }
     }
 }
 
-// The rules of all variables for one code, by the writers of each.
-pub fn fill_rules(
-    s: &[u8],
-    l: Layout,
-    code: usize,
-    writers: &[u8; VARIABLE_LIMIT],
-    reads: &mut [u8; VARIABLE_LIMIT],
-    writes: &mut [u8; VARIABLE_LIMIT],
-)
-    requires { SoundFile s.now l × (length reads.old ≡ variable_limit) × (length writes.old ≡ variable_limit) × (code < code_limit)
-        × (writers.now ≡ writer_table (program_of s.now l)) }
-    ensures { RuleTables s.now l code reads.new writes.new }
-{
-    let mut v: usize = 0;
-    while v < l.variables {
-        let kind = kind_at(s, RECORDS_START + VARIABLE_SIZE * v, l.locks, l.threads);
-        let others = written_by_other(writers[v], code);
-        reads[v] = rule_of(kind, code, false, others);
-        writes[v] = rule_of(kind, code, true, true);
-        v += 1;
+// The rules of all variables of a file for one of its codes: two arrays of the limit's size, since there is no heap and an access looks into
+// one of the two, whose Rules have a byte or two each.
+#[derive(Drop)]
+pub struct AccessRules<'a> {
+    pub file: &'a ProgramFile<'a>,
+    pub code: usize,
+    pub reads: [Rule; VARIABLE_LIMIT],
+    pub writes: [Rule; VARIABLE_LIMIT],
+    pub ghost is_code: { code < code_limit },
+    pub ghost lawful: { RuleTables file.now.bytes.now file.now.layout code reads writes } by { Prim.hlevel props },
+}
+
+impl<'a> AccessRules<'a> {
+    // By the writers of each variable.
+    pub fn of(
+        file: &'a ProgramFile<'a>,
+        code: usize,
+        writers: &[u8; VARIABLE_LIMIT],
+    ) -> AccessRules<'a>
+        requires { (code < code_limit) × (writers.now ≡ writer_table (program_of file.now.bytes.now file.now.layout)) }
+        ensures { (result.file.now ≡ file.now) × (result.code ≡ code) }
+    {
+        let layout = file.layout;
+        let mut reads = [Rule::Free; VARIABLE_LIMIT];
+        let mut writes = [Rule::Free; VARIABLE_LIMIT];
+        for v in 0..layout.variables {
+            let kind = kind_at(
+                file.bytes,
+                RECORDS_START + VARIABLE_SIZE * v,
+                layout.locks,
+                layout.threads,
+            );
+            let others = written_by_other(writers[v], code);
+            reads[v] = Rule::of(kind, code, false, others);
+            writes[v] = Rule::of(kind, code, true, true);
+        }
+        AccessRules {
+            file,
+            code,
+            reads,
+            writes,
+        }
     }
 }

@@ -1,20 +1,19 @@
 // What an instruction does in the walk over a code (the standard, "Lock discipline", "Atomicities").
-ghost use Rattle.std.specs.Prelude.{◌≡◌, List, ℕ, ◌<◌, length};
+ghost use Rattle.std.specs.Prelude.{◌≡◌, ◌<◌, not, Ok};
 ghost use Rattle.program.specs.View.{access_of};
-ghost use Rattle.program.specs.Choice.{choose};
+ghost use Rattle.program.specs.Answer.{require};
 ghost use Rattle.program.specs.Layout.{program_of};
 ghost use Rattle.program.specs.Limits.{lock_limit, variable_limit};
 ghost use Rattle.program.specs.Internal.Sound.{AccessBelow};
-ghost use Rattle.program.specs.declared.layout.Layout.{Layout};
 ghost use Rattle.program.specs.declared.refusal.Refusal.TheVariants.{Taken, NotTaken};
 ghost use Rattle.judge.specs.LockSet.{holds};
 ghost use Rattle.judge.specs.Internal.Effect.{effect_of};
-ghost use Rattle.judge.specs.Internal.Rule.{RuleTables, ruled};
+ghost use Rattle.judge.specs.Internal.Rule.{lock_of, ruled};
 
+use crate::access_rule::{AccessRules, Rule};
 use crate::frame::Part;
 use crate::lock_set::LockSet;
 use program::instruction::Instruction;
-use program::limits::{LOCK_LIMIT, VARIABLE_LIMIT};
 use program::refusal::Refusal;
 
 #[derive(Clone, Copy)]
@@ -29,75 +28,72 @@ pub enum Effect {
     Gives(u8),
     // An IF or a WHILE, with the part that it opens.
     Opens(Part),
-    // An ATOMIC, with what it states: by itself, since a value that every opener hands on makes the walk over other instructions slower.
-    Begins(u8),
     // A closer. Which part it closes, the innermost frame says: reading has seen to that.
     Closes,
-    Refused(Refusal),
 }
-
-const LOCKS: u8 = LOCK_LIMIT as u8;
 
 // A read or a write at file offset d of a variable with this rule.
-fn by_rule(rule: u8, d: usize, locks: LockSet) -> Effect
+#[tactic(auto, unfolding(crate::specs::Internal::Rule::ruled))]
+fn by_rule(rule: Rule, d: usize, locks: LockSet) -> Result<Effect, Refusal>
+    requires { lock_of rule < lock_limit }
     ensures { result ≡ ruled rule d locks }
 {
-    if rule < LOCKS {
-        if locks.holds(rule) {
-            return Effect::Nothing;
-        }
-        return Effect::Refused(Refusal::Access(d));
-    }
     match rule {
-        16 => Effect::Nothing,
-        17 => Effect::Single,
-        _ => Effect::Refused(Refusal::Access(d)),
+        Rule::Free => Ok(Effect::Nothing),
+        Rule::Locked(k) => if locks.holds(k) {
+            Ok(Effect::Nothing)
+        } else {
+            Err(Refusal::Access(d))
+        },
+        Rule::Single => Ok(Effect::Single),
+        Rule::Never => Err(Refusal::Access(d)),
     }
 }
 
-fn taking(k: u8, d: usize, locks: LockSet) -> Effect
+// TAKE and GIVE: two sentences of the standard, each with its own refusal. Here and below the offset is for a refusal alone.
+fn taking(k: u8, d: usize, locks: LockSet) -> Result<Effect, Refusal>
     requires { k < lock_limit }
-    ensures { result ≡ choose (holds locks k) (Effect.Refused (Taken d)) (Effect.Takes k) }
+    ensures { result ≡ require (not (holds locks k)) (Taken d) (Ok (Effect.Takes k)) }
 {
     if locks.holds(k) {
-        return Effect::Refused(Refusal::Taken(d));
+        return Err(Refusal::Taken(d));
     }
-    Effect::Takes(k)
+    Ok(Effect::Takes(k))
 }
 
-fn giving(k: u8, d: usize, locks: LockSet) -> Effect
+fn giving(k: u8, d: usize, locks: LockSet) -> Result<Effect, Refusal>
     requires { k < lock_limit }
-    ensures { result ≡ choose (holds locks k) (Effect.Gives k) (Effect.Refused (NotTaken d)) }
+    ensures { result ≡ require (holds locks k) (NotTaken d) (Ok (Effect.Gives k)) }
 {
     if locks.holds(k) {
-        return Effect::Gives(k);
+        return Ok(Effect::Gives(k));
     }
-    Effect::Refused(Refusal::NotTaken(d))
+    Err(Refusal::NotTaken(d))
 }
 
 // What the instruction at file offset d does where these locks are held.
+#[tactic(auto, unfolding(crate::specs::Internal::Effect::effect_of, crate::specs::Internal::Effect::form_effect, crate::specs::Internal::Effect::access_effect, program::specs::View::access_of, program::specs::View::form_of, program::specs::View::statement_of))]
 pub fn effect_of(
     i: Instruction,
     d: usize,
     locks: LockSet,
-    reads: &[u8; VARIABLE_LIMIT],
-    writes: &[u8; VARIABLE_LIMIT],
-) -> Effect
-    requires { (length reads.now ≡ variable_limit) × (length writes.now ≡ variable_limit) × AccessBelow lock_limit variable_limit (access_of i) }
-    ensures { (s : List ℕ) (l : Layout) (code : ℕ) → RuleTables s l code reads.now writes.now
-        → AccessBelow l.locks l.variables (access_of i) → result ≡ effect_of (program_of s l) code d i locks }
+    rules: &AccessRules,
+) -> Result<Effect, Refusal>
+    requires { AccessBelow lock_limit variable_limit (access_of i) }
+    ensures { AccessBelow rules.now.file.now.layout.locks rules.now.file.now.layout.variables (access_of i)
+        → result ≡ effect_of (program_of rules.now.file.now.bytes.now rules.now.file.now.layout) rules.now.code d i locks }
 {
     match i {
-        Instruction::Read(_, v) => by_rule(reads[v as usize], d, locks),
-        Instruction::Write(_, v) => by_rule(writes[v as usize], d, locks),
+        Instruction::Read(_, v) => by_rule(rules.reads[v as usize], d, locks),
+        Instruction::Write(_, v) => by_rule(rules.writes[v as usize], d, locks),
         Instruction::Take(k) => taking(k, d, locks),
         Instruction::Give(k) => giving(k, d, locks),
-        Instruction::If(_, _) => Effect::Opens(Part::Then),
-        Instruction::Else(_) => Effect::Closes,
-        Instruction::While(_, _) => Effect::Opens(Part::Body),
-        Instruction::Again(_) => Effect::Closes,
-        Instruction::Atomic(stated, _) => Effect::Begins(stated),
-        Instruction::End => Effect::Closes,
-        _ => Effect::Nothing,
+        Instruction::If(_, _) => Ok(Effect::Opens(Part::Then)),
+        Instruction::Else(_) => Ok(Effect::Closes),
+        Instruction::While(_, _) => Ok(Effect::Opens(Part::Body)),
+        Instruction::Again(_) => Ok(Effect::Closes),
+        Instruction::Atomic(stated, _) => Ok(Effect::Opens(Part::Block(stated))),
+        Instruction::End => Ok(Effect::Closes),
+        _ => Ok(Effect::Nothing),
     }
 }

@@ -1,7 +1,7 @@
 // The constructs that are open where a code is walked over, and how a part of one ends (the standard, "Lock discipline", "Atomicities").
 ghost use Rattle.std.specs.Prelude.{◌≡◌};
-ghost use Rattle.judge.specs.Judging.{is_top, states_truly};
-ghost use Rattle.judge.specs.Internal.Scan.{no_frame, opened_frame, other_part};
+ghost use Rattle.judge.specs.Judging.{states_truly};
+ghost use Rattle.judge.specs.Internal.Scan.{opened_frame, other_part};
 ghost use Rattle.judge.specs.Internal.Scan as Scan;
 
 use crate::lock_set::LockSet;
@@ -13,11 +13,11 @@ use program::refusal::Refusal;
 pub enum Part {
     // Of an IF: what stands before its ELSE.
     Then,
-    // Of an IF: what stands after its ELSE.
-    Else,
+    // Of an IF: what stands after its ELSE, with the then part's atomicity.
+    Else(Atomicity),
     // A WHILE's body.
     Body,
-    // An ATOMIC's body, with what the ATOMIC states: a report byte, or 0.
+    // An ATOMIC's body, with what the ATOMIC states: a report byte, or 0, as the instruction has it.
     Block(u8),
 }
 
@@ -29,122 +29,85 @@ pub struct Frame {
     pub opener: usize,
     // The lock set at the opener; of an ELSE part, the one at the then part's end.
     pub locks: LockSet,
-    // Of an ELSE part: the then part's atomicity.
-    pub first: Atomicity,
     // The atomicity of what stands before the opener in the part around it.
     pub before: Atomicity,
 }
 
-// How a part ends.
+// How a part ends that breaks no rule.
 #[derive(Clone, Copy)]
 pub enum Closed {
     // An IF's then part: its other part comes.
     Other,
     // The construct has ended, and this is its atomicity.
     Whole(Atomicity),
-    Refused(Refusal),
 }
 
-// A frame that nothing reads.
-pub fn no_frame() -> Frame
-    ensures { result ≡ no_frame }
-{
-    let locks = LockSet::empty();
-    Frame {
-        part: Part::Body,
-        opener: 0,
-        locks,
-        first: Atomicity::Both,
-        before: Atomicity::Both,
-    }
-}
-
-// The frame that an opener opens, whose byte stands at `at` in the report.
-pub fn opened_frame(part: Part, at: usize, locks: LockSet, sofar: Atomicity) -> Frame
-    ensures { result ≡ opened_frame part at locks sofar }
-{
-    Frame {
-        part,
-        opener: at,
-        locks,
-        first: Atomicity::Both,
-        before: sofar,
-    }
-}
-
-// The frame of an IF's other part, where the then part ends with these locks and this atomicity.
-pub fn other_part(frame: Frame, locks: LockSet, sofar: Atomicity) -> Frame
-    ensures { result ≡ other_part frame locks sofar }
-{
-    let before = frame.before;
-    Frame {
-        part: Part::Else,
-        opener: frame.opener,
-        locks,
-        first: sofar,
-        before,
-    }
-}
-
-// The END of an IF, at file offset d.
-fn else_end(d: usize, frame: Frame, locks: LockSet, sofar: Atomicity) -> Closed
-    ensures { result ≡ Scan.else_end d frame locks sofar }
-{
-    let then_locks = frame.locks;
-    let first = frame.first;
-    if then_locks.same(locks) {
-        return Closed::Whole(first.join(sofar));
-    }
-    Closed::Refused(Refusal::SetsDiffer(d))
-}
-
-// The AGAIN of a WHILE.
-fn body_end(d: usize, frame: Frame, locks: LockSet, sofar: Atomicity) -> Closed
-    ensures { result ≡ Scan.body_end d frame locks sofar }
-{
-    let at_while = frame.locks;
-    if at_while.same(locks) {
-        return Closed::Whole(sofar.closure());
-    }
-    Closed::Refused(Refusal::SetsDiffer(d))
-}
-
-// By the report's bytes, one for each atomicity: `==` on enums is not covered.
-fn is_top(a: Atomicity) -> bool
-    ensures { result ≡ is_top a }
-{
-    a.report_byte() == Atomicity::Top.report_byte()
-}
-
-// Whether what an ATOMIC states of its block is true.
+// Whether what an ATOMIC states of its block is true: by report bytes, since what is stated is one.
+#[tactic(auto, unfolding(crate::specs::Judging::states_truly))]
 fn states_truly(stated: u8, a: Atomicity) -> bool
     ensures { result ≡ states_truly stated a }
 {
-    (stated == 0) | (stated == a.report_byte())
+    stated == 0 || stated == a.report_byte()
 }
 
-// The END of an ATOMIC that states this.
-fn block_end(stated: u8, d: usize, sofar: Atomicity) -> Closed
+// The END, at file offset d, of an ATOMIC that states this.
+#[tactic(auto, using(crate::proofs::Frames::is_top_same))]
+fn block_end(stated: u8, d: usize, sofar: Atomicity) -> Result<Closed, Refusal>
     ensures { result ≡ Scan.block_end stated d sofar }
 {
-    if is_top(sofar) {
-        return Closed::Refused(Refusal::NotAtomic(d));
+    if sofar == Atomicity::Top {
+        return Err(Refusal::NotAtomic(d));
     }
     if states_truly(stated, sofar) {
-        return Closed::Whole(sofar);
+        return Ok(Closed::Whole(sofar));
     }
-    Closed::Refused(Refusal::FalseStatement(d))
+    Err(Refusal::FalseStatement(d))
 }
 
-// The closer at file offset d of the part that this frame is of.
-pub fn part_end(d: usize, frame: Frame, locks: LockSet, sofar: Atomicity) -> Closed
-    ensures { result ≡ Scan.end_of frame.part d frame locks sofar }
-{
-    let part = frame.part;
-    match part {
-        Part::Then => Closed::Other,
-        Part::Else => else_end(d, frame, locks, sofar),
-        Part::Body => body_end(d, frame, locks, sofar),
-        Part::Block(stated) => block_end(stated, d, sofar),
+impl Frame {
+    // Of the part that an opener opens, whose byte stands at `at` in the report.
+    pub fn opened(part: Part, at: usize, locks: LockSet, sofar: Atomicity) -> Frame
+        ensures { result ≡ opened_frame part at locks sofar }
+    {
+        Frame {
+            part,
+            opener: at,
+            locks,
+            before: sofar,
+        }
+    }
+
+    // Of an IF's other part, where the then part ends with these locks and this atomicity.
+    pub fn other(self, locks: LockSet, sofar: Atomicity) -> Frame
+        ensures { result ≡ other_part self locks sofar }
+    {
+        Frame {
+            part: Part::Else(sofar),
+            locks,
+            ..self
+        }
+    }
+
+    // A construct of this atomicity, whose part is to end at file offset d with the frame's lock set.
+    #[tactic(auto, unfolding(crate::specs::LockSet::same))]
+    fn ends_alike(self, d: usize, locks: LockSet, own: Atomicity) -> Result<Closed, Refusal>
+        ensures { result ≡ Scan.ends_alike d self locks own }
+    {
+        if self.locks == locks {
+            return Ok(Closed::Whole(own));
+        }
+        Err(Refusal::SetsDiffer(d))
+    }
+
+    // The closer of its part, at file offset d, after these locks and this atomicity.
+    pub fn end(self, d: usize, locks: LockSet, sofar: Atomicity) -> Result<Closed, Refusal>
+        ensures { result ≡ Scan.end_of self.part d self locks sofar }
+    {
+        match self.part {
+            Part::Then => Ok(Closed::Other),
+            Part::Else(first) => self.ends_alike(d, locks, first.join(sofar)),
+            Part::Body => self.ends_alike(d, locks, sofar.closure()),
+            Part::Block(stated) => block_end(stated, d, sofar),
+        }
     }
 }

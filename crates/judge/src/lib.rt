@@ -6,5 +6,4 @@ pub mod effect;
 pub mod frame;
 pub mod judging;
 pub mod lock_set;
-pub mod verdict;
 pub mod walk;

@@ -1,20 +1,21 @@
 // The locks that are held at a place of a code, as its text says (the standard, "Lock discipline"): a bit for each.
 ghost use Rattle.std.specs.Prelude.{◌≡◌, true, false, ◌<◌};
 ghost use Rattle.program.specs.Limits.{lock_limit};
-ghost use Rattle.judge.specs.LockSet.{empty, holds, same, with_lock, without_lock};
+ghost use Rattle.judge.specs.LockSet.{empty, holds, with_lock, without_lock};
 
 use program::limits::LOCK_LIMIT;
 
-#[derive(Clone, Copy)]
+#[derive(Clone, Copy, PartialEq, Eq)]
 pub struct LockSet {
     pub bits: u16,
 }
 
 impl LockSet {
-    // The lock limit: each lock is below it.
+    // The lock limit: each lock is below it. For callers that bound a lock's number, which is a number in file and definitions and no type.
     pub const LIMIT: usize = LOCK_LIMIT;
 
-    // "Each thread starts with no locks held."
+    // "Each thread starts with no locks held." (Named as the standard says it; a Default would say less.)
+    #[tactic(auto, unfolding(crate::specs::LockSet::empty))]
     pub fn empty() -> LockSet
         ensures { result ≡ empty }
     {
@@ -22,6 +23,7 @@ impl LockSet {
     }
 
     // Whether a lock is in the set.
+    #[tactic(auto, unfolding(crate::specs::LockSet::holds))]
     pub fn holds(self, k: u8) -> bool
         requires { k < lock_limit }
         ensures { result ≡ holds self k }
@@ -30,6 +32,7 @@ impl LockSet {
     }
 
     // "TAKE adds its lock"
+    #[tactic(auto, using(crate::proofs::LockSets::shifted, crate::proofs::LockSets::with_below), unfolding(crate::specs::LockSet::with_lock))]
     pub fn with(self, k: u8) -> LockSet
         requires { (k < lock_limit) × (holds self k ≡ false) }
         ensures { result ≡ with_lock self k }
@@ -40,6 +43,7 @@ impl LockSet {
     }
 
     // "GIVE takes it out"
+    #[tactic(auto, using(crate::proofs::LockSets::shifted, crate::proofs::LockSets::without_above), unfolding(crate::specs::LockSet::without_lock))]
     pub fn without(self, k: u8) -> LockSet
         requires { (k < lock_limit) × (holds self k ≡ true) }
         ensures { result ≡ without_lock self k }
@@ -47,11 +51,5 @@ impl LockSet {
         LockSet {
             bits: self.bits - (1 << k),
         }
-    }
-
-    pub fn same(self, other: LockSet) -> bool
-        ensures { result ≡ same self other }
-    {
-        self.bits == other.bits
     }
 }

@@ -1,137 +1,154 @@
 // One code judged in one walk (the standard, "Lock discipline", "Atomicities").
-ghost use Rattle.std.specs.Prelude.{◌≡◌, List, ◌+◌, ◌≤◌, ◌<◌, length};
-ghost use Rattle.program.specs.Internal.Rows.{row_table};
-ghost use Rattle.program.specs.Internal.Sections.{Located};
-ghost use Rattle.program.specs.Layout.{program_of, instructions_at};
-ghost use Rattle.program.specs.Limits.{lock_limit, report_limit, variable_limit};
-ghost use Rattle.judge.specs.Internal.Rule.{RuleTables};
-ghost use Rattle.judge.specs.Internal.Scan.{carried, reported, scan_code};
+ghost use Rattle.std.specs.Prelude.{◌≡◌, List, ◌∷◌, ℕ, ◌+◌, ◌≤◌, ◌<◌, length, get_or, set};
+ghost use Rattle.program.specs.Internal.Sections.{no_section};
+ghost use Rattle.program.specs.Layout.{program_of};
+ghost use Rattle.program.specs.Limits.{entry_limit, report_limit};
+ghost use Rattle.atomicity.specs.Atomicity.{composition, report_byte};
+ghost use Rattle.atomicity.specs.declared.Atomicity.TheVariants.{Both};
+ghost use Rattle.judge.specs.Internal.Scan.{Ready, applied, carried, left_by, opened_frame, scan_code, seen, starting};
 ghost use Rattle.judge.specs.Internal.Scan as Scan;
-ghost use Rattle.judge.specs.declared.frame.Frame.{Frame};
 
+use crate::access_rule::AccessRules;
 use crate::effect::{Effect, effect_of};
-use crate::frame::{Closed, Part, no_frame, opened_frame, other_part, part_end};
+use crate::frame::{Closed, Frame, Part};
 use crate::lock_set::LockSet;
-use crate::verdict::Verdict;
 use atomicity::Atomicity;
 use program::instruction::instruction_at;
-use program::layout::Layout;
-use program::limits::{ENTRY_LIMIT, INSTRUCTION_SIZE, VARIABLE_LIMIT};
+use program::limits::ENTRY_LIMIT;
 use program::refusal::Refusal;
+use program::stack::Stack;
 
-// The report bytes (the standard: "with report bytes: B 1 .. L 2, R 3, A 4"; "0 for ELSE, AGAIN and END").
+// The report's byte where there is no atomicity: of "ELSE, AGAIN and END".
 const CLOSER: u8 = 0;
 
-const BOTH: u8 = 1;
-
-const LEFT: u8 = 2;
-
-const RIGHT: u8 = 3;
-
-const ATOMIC: u8 = 4;
-
-// The code's end, at file offset d: "A thread's code must end with none".
-fn code_end(d: usize, at: usize, locks: LockSet, sofar: Atomicity, report: &mut [u8]) -> Verdict
-    requires { at < length report.old }
-    ensures { (frames : List Frame) → reported result report.new
-        ≡ Scan.ending d at (carried locks sofar frames report.old) }
-{
-    if locks.same(LockSet::empty()) {
-        report[at] = sofar.report_byte();
-        return Verdict::Allowed;
-    }
-    Verdict::Refused(Refusal::SetsDiffer(d))
+// What the walk carries from one instruction to the next. The report stays beside it: a buffer inside it makes judging a fifth slower.
+#[derive(Drop)]
+pub struct Walk<'a> {
+    pub locks: LockSet,
+    // The atomicity of what was passed of the innermost part.
+    pub sofar: Atomicity,
+    // The open constructs, the innermost on top.
+    pub frames: Stack<'a, Frame>,
 }
 
-// A code of the file.
-#[derive(Clone, Copy)]
-pub struct Code {
-    pub number: usize,
-    // The file offset of its first instruction, and how many it has.
-    pub start: usize,
-    pub count: usize,
-    // Where its first byte stands in the report.
-    pub first: usize,
-}
-
-// One code. The open frames are elements 1 to `depth` of `frames`, the last innermost. The layout is there for the contract: reading has
-// tested the instructions by its counts.
-pub fn walk_code(
-    rows: &[u8],
-    s: &[u8],
-    l: Layout,
-    c: Code,
-    reads: &[u8; VARIABLE_LIMIT],
-    writes: &[u8; VARIABLE_LIMIT],
-    report: &mut [u8],
-) -> Verdict
-    requires { (rows.now ≡ row_table) × Located s.now l c.start c.count c.number × RuleTables s.now l c.number reads.now writes.now
-        × (l.locks ≤ lock_limit) × (l.variables ≤ variable_limit) × (c.first + c.count < report_limit) × (report_limit ≤ length report.old) }
-    ensures { reported result report.new ≡ scan_code (program_of s.now l) c.number c.first report.old
-        (record { start = c.start; code = instructions_at l.locks l.variables s.now c.count c.start }) }
-{
-    let mut frames = [no_frame(); ENTRY_LIMIT + 1];
-    let mut depth = 0;
-    let mut locks = LockSet::empty();
-    let mut sofar = Atomicity::Both;
-    let mut p = 0;
-    while p < c.count {
-        let d = c.start + INSTRUCTION_SIZE * p;
-        let at = c.first + p;
-        p += 1;
-        match effect_of(instruction_at(rows, s, d), d, locks, reads, writes) {
-            Effect::Nothing => report[at] = BOTH,
-            Effect::Single => {
-                report[at] = ATOMIC;
-                sofar = sofar.then(Atomicity::Atomic);
-            }
-            Effect::Takes(k) => {
-                report[at] = RIGHT;
-                locks = locks.with(k);
-                sofar = sofar.then(Atomicity::Right);
-            }
-            Effect::Gives(k) => {
-                report[at] = LEFT;
-                locks = locks.without(k);
-                sofar = sofar.then(Atomicity::Left);
-            }
-            Effect::Opens(part) => {
-                depth += 1;
-                frames[depth] = opened_frame(part, at, locks, sofar);
-                sofar = Atomicity::Both;
-            }
-            Effect::Begins(stated) => {
-                depth += 1;
-                frames[depth] = opened_frame(Part::Block(stated), at, locks, sofar);
-                sofar = Atomicity::Both;
-            }
-            Effect::Closes => {
-                report[at] = CLOSER;
-                let frame = frames[depth];
-                match part_end(d, frame, locks, sofar) {
-                    Closed::Other => {
-                        frames[depth] = other_part(frame, locks, sofar);
-                        locks = frame.locks;
-                        sofar = Atomicity::Both;
-                    }
-                    Closed::Whole(own) => {
-                        let before = frame.before;
-                        let opener = frame.opener;
-                        report[opener] = own.report_byte();
-                        depth -= 1;
-                        sofar = before.then(own);
-                    }
-                    Closed::Refused(refusal) => return Verdict::Refused(refusal),
-                }
-            }
-            Effect::Refused(refusal) => return Verdict::Refused(refusal),
+impl<'a> Walk<'a> {
+    // Where a code begins, with room for its frames.
+    #[tactic(auto, unfolding(crate::specs::Internal::Scan::starting))]
+    fn start(room: &'a mut [Frame; ENTRY_LIMIT]) -> Walk<'a>
+        ensures { (report : List ℕ) → seen result report ≡ starting report }
+    {
+        Walk {
+            locks: LockSet::empty(),
+            sofar: Atomicity::Both,
+            frames: Stack::new(room),
         }
     }
-    code_end(
-        c.start + INSTRUCTION_SIZE * c.count,
-        c.first + c.count,
-        locks,
-        sofar,
-        report,
-    )
+
+    // An instruction of this atomicity, whose byte stands at `at` in the report. (File offset and report index are two numbers of one
+    // place, and no function takes both but close, apply and end: a struct of the two would be made at each instruction.)
+    fn pass(&mut self, own: Atomicity, at: usize, report: &mut [u8])
+        requires { at < length report.old }
+        ensures { seen self.new report.new
+            ≡ carried self.old.locks (composition self.old.sofar own) self.old.frames (set report.old at (report_byte own)) }
+    {
+        report[at] = own.report_byte();
+        self.sofar = self.sofar.then(own);
+    }
+
+    // An opener of this part, whose byte stands at `at`.
+    fn open(&mut self, part: Part, at: usize)
+        requires { length self.old.frames < entry_limit }
+        ensures { (self.new.locks ≡ self.old.locks) × (self.new.sofar ≡ Both) × (self.new.frames ≡ opened_frame part at self.old.locks self.old.sofar ∷ self.old.frames) }
+    {
+        self.frames
+            .push(Frame::opened(part, at, self.locks, self.sofar));
+        self.sofar = Atomicity::Both;
+    }
+
+    // A closer at file offset d, whose byte stands at `at`.
+    #[tactic(auto, unfolding(crate::specs::Internal::Scan::applied))]
+    fn close(&mut self, d: usize, at: usize, report: &mut [u8]) -> Result<(), Refusal>
+        requires { (at < length report.old) × Ready Effect.Closes (seen self.old report.old) }
+        ensures { left_by result (seen self.new report.new) ≡ applied Effect.Closes d at (seen self.old report.old) }
+    {
+        report[at] = CLOSER;
+        let frame = self.frames.top().unwrap();
+        match frame.end(d, self.locks, self.sofar)? {
+            Closed::Other => {
+                self.frames.replace_top(frame.other(self.locks, self.sofar));
+                self.locks = frame.locks;
+                self.sofar = Atomicity::Both;
+            }
+            Closed::Whole(own) => {
+                self.frames.pop();
+                report[frame.opener] = own.report_byte();
+                self.sofar = frame.before.then(own);
+            }
+        }
+        Ok(())
+    }
+
+    // The instruction at file offset d, whose byte stands at `at`, by what it does.
+    #[tactic(auto, unfolding(crate::specs::Internal::Scan::applied))]
+    fn apply(
+        &mut self,
+        effect: Effect,
+        d: usize,
+        at: usize,
+        report: &mut [u8],
+    ) -> Result<(), Refusal>
+        requires { (at < length report.old) × Ready effect (seen self.old report.old) }
+        ensures { left_by result (seen self.new report.new) ≡ applied effect d at (seen self.old report.old) }
+    {
+        match effect {
+            // Composed with B, what was passed stays as it is.
+            Effect::Nothing => report[at] = Atomicity::Both.report_byte(),
+            Effect::Single => self.pass(Atomicity::Atomic, at, report),
+            Effect::Takes(k) => {
+                self.locks = self.locks.with(k);
+                self.pass(Atomicity::Right, at, report);
+            }
+            Effect::Gives(k) => {
+                self.locks = self.locks.without(k);
+                self.pass(Atomicity::Left, at, report);
+            }
+            Effect::Opens(part) => self.open(part, at),
+            Effect::Closes => return self.close(d, at, report),
+        }
+        Ok(())
+    }
+
+    // The code's end, at file offset d: "A thread's code must end with none". Its byte stands at `at`.
+    #[tactic(auto, unfolding(crate::specs::Internal::Scan::ending, crate::specs::LockSet::same))]
+    fn end(&self, d: usize, at: usize, report: &mut [u8]) -> Result<(), Refusal>
+        requires { at < length report.old }
+        ensures { left_by result report.new ≡ Scan.ending d at (seen self.now report.old) }
+    {
+        if self.locks != LockSet::empty() {
+            return Err(Refusal::SetsDiffer(d));
+        }
+        report[at] = self.sofar.report_byte();
+        Ok(())
+    }
+}
+
+// The code that the rules are for, its report written from `first` on.
+pub fn walk_code(rules: &AccessRules, first: usize, report: &mut [u8]) -> Result<(), Refusal>
+    requires { (rules.now.code < rules.now.file.now.layout.threads) × (first + get_or rules.now.file.now.counts rules.now.code 0 < report_limit)
+        × (report_limit ≤ length report.old) }
+    ensures { let p = program_of rules.now.file.now.bytes.now rules.now.file.now.layout in
+        left_by result report.new ≡ scan_code p rules.now.code first report.old (get_or p.codes rules.now.code no_section) }
+{
+    let file = rules.file;
+    let count = file.count(rules.code);
+    // What stands in it is never read.
+    let mut room = [Frame::opened(Part::Body, 0, LockSet::empty(), Atomicity::Both); ENTRY_LIMIT];
+    let mut walk = Walk::start(&mut room);
+    for p in 0..count {
+        let d = file.offset_of(rules.code, p);
+        let i = instruction_at(file.bytes, d);
+        let effect = effect_of(i, d, walk.locks, rules)?;
+        walk.apply(effect, d, first + p, &mut *report)?;
+    }
+    walk.end(file.offset_of(rules.code, count), first + count, report)
 }

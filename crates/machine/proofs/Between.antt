@@ -1,21 +1,24 @@
 -- The loops over the entries of a list, a part at a time: running the entries that are left from what the arrays hold is running the whole.
 -- Assumes nothing.
---     moved_after, waiting_after   what is counted, after an entry
 --     InPart                       what holds before an entry of a part
 --     part_start, part_next, part_end
 --                                  ... before the first, after an entry, after the last
 --     Between                      what holds before a part of a list
 --     between_start, between_next
 --                                  ... before the first, after a part
+--     part_named                   a part of the entries names threads
 --     Whole                        what is known of the whole list's run
---     between_end                  ... after the last part, or if every thread is at its end
+--     entries_drop                 what is left of a list of entries
+--     between_end                  ... where the loop stops: after the last part, or if every thread is at its end
+--     ended_early, all_run         ... in either case
 --     whole_tally                  the numbers that are kept are those of the whole list
 --     whole_counts                 its counts are those of the numbers
-use Rattle.std.proofs.Common.{◌≡◌, ℕ, ◌+◌, ◌-◌, ◌<◌, ◌≤◌, List, [], ◌∷◌, ◌++◌, length, get_or, take, drop, set, replicate, sym, refl, ap, ◌∙◌, subst, add-one, arith, length-drop, length-set, take-append-drop, drop_of_length-le, get_or-drop, drop-cons, get_or-set_other, get_or-set_same, drop-drop, ext_get_or}
+use Rattle.std.proofs.Common.{◌≡◌, ℕ, ◌+◌, ◌-◌, ◌<◌, ◌≤◌, List, [], ◌∷◌, ◌++◌, length, get_or, drop, set, replicate, sym, refl, ap, ◌∙◌, subst, add-one, arith, length-append, length-drop, length-set, get_or-drop, drop_of_length-le, drop-cons, get_or-set_other, get_or-set_same, ext_get_or}
 use mathlib.Core.Logic.{dite}
 use native.Mathlib.Decide.{ℕ_discrete, dec_lt}
 use borrow.Author.Tests.{eqb-false}
 use lib.Seq.{set-get_or}
+use Rattle.std.proofs.lemmas.List.{nil_from_length}
 use Rattle.program.proofs.Lists.{get_or-set_holds, get_or-replicate_same}
 use Rattle.program.specs.Layout.{Program, program_of}
 use Rattle.program.specs.Limits.{thread_limit}
@@ -24,32 +27,18 @@ use Rattle.program.specs.declared.layout.Layout.{Layout}
 use Rattle.machine.specs.State.{State}
 use Rattle.machine.specs.Step.{outcome, step}
 use Rattle.machine.specs.Run.{Entries, Run, uncounted, counts_of, counted_for, run_from, total, times_named}
-use Rattle.machine.specs.Internal.Kept.{state_in, from_here, nobody, Kept}
-use Rattle.machine.specs.Internal.Tally.{Agree, Numbers, RunTo, AtMost, tallied, Tally}
+use Rattle.machine.specs.Internal.Kept.{state_in, nobody, Kept, Ended}
+use Rattle.machine.specs.Internal.Tally.{one_more, moved_after, waiting_after, Agree, Numbers, RunTo, AtMost, tallied, Tally}
 use Rattle.machine.specs.declared.counts.Counts.{Counts}
 use Rattle.machine.specs.declared.thread.Outcome.{Outcome}
 use Rattle.machine.specs.declared.thread.Outcome.TheVariants.{Moved, Waiting, Idle}
 use Rattle.machine.specs.declared.thread.Thread.{Thread}
 use Rattle.machine.proofs.Ends.{AtEnd, never_idle}
 use Rattle.machine.proofs.Kept.{not_at_end, step_idle}
-use Rattle.machine.proofs.Sums.{entries_head, entries_tail, count_kept, length-counted, length-counts, uncounted_named, from_absent}
+use Rattle.machine.proofs.Sums.{entries_none, entries_more, entries_head, entries_tail, count_kept, length-counted, length-counts, uncounted_named, from_absent}
 use Rattle.machine.proofs.Entry.{after_entry}
 
 -- What is counted
-
--- one more for thread t
-abbrev one_more : ℕ → List ℕ → List ℕ
-one_more t ns = set ns t (get_or ns t 0 + 1)
-
-abbrev pub moved_after : Outcome → ℕ → List ℕ → List ℕ
-moved_after Moved t ns = one_more t ns
-moved_after Waiting t ns = ns
-moved_after Idle t ns = ns
-
-abbrev pub waiting_after : Outcome → ℕ → List ℕ → List ℕ
-waiting_after Moved t ns = ns
-waiting_after Waiting t ns = one_more t ns
-waiting_after Idle t ns = ns
 
 module _ (f : Counts → ℕ) (cs : List Counts) (ns : List ℕ) (t : ℕ) (h : t < length cs) (k : t < length ns) (agree : Agree f cs ns) where
   agree_set : (c : Counts) (n : ℕ) → f c ≡ n → Agree f (set cs t c) (set ns t n)
@@ -109,45 +98,36 @@ numbers_next o t cs moved waiting k x = record {
 -- A part of a list
 
 -- before entry i of a part that began in a state, with these numbers: whatever was counted, it is counted on
-pub record InPart (s : List ℕ) (l : Layout) (counts list : List ℕ) (from : State) (moved₀ waiting₀ : List ℕ) (before : ℕ) (vs ks : List ℕ) (ths : List Thread)
-    (moved waiting : List ℕ) (i : ℕ)
-    : Type 0 where
-  pub kept : Kept l counts vs ks ths
+pub record InPart (p : Program) (list : List ℕ) (from : State) (moved₀ waiting₀ : List ℕ) (before : ℕ) (now : State) (moved waiting : List ℕ) (i : ℕ) : Type 0 where
   pub at_most : AtMost (before + i) moved waiting
   pub counting : (cs : List Counts) → Numbers cs moved₀ waiting₀
-      → (now : List Counts) × Numbers now moved waiting
-      × (run_from (program_of s l) (record { counts = cs; state = from }) list
-      ≡ run_from (program_of s l) (record { counts = now; state = state_in l vs ks ths }) (drop i list))
+      → (counted : List Counts) × Numbers counted moved waiting
+      × (run_from p (record { counts = cs; state = from }) list ≡ run_from p (record { counts = counted; state = now }) (drop i list))
 
-pub part_start : (s : List ℕ) {l : Layout} {counts : List ℕ} (list : List ℕ) {vs ks : List ℕ} {ths : List Thread} (before : ℕ) (moved waiting : List ℕ)
-    → Kept l counts vs ks ths → AtMost before moved waiting
-    → InPart s l counts list (state_in l vs ks ths) moved waiting before vs ks ths moved waiting 0
-part_start s list before moved waiting kept most = record {
-  kept = kept;
+pub part_start : (p : Program) (list : List ℕ) (from : State) (before : ℕ) (moved waiting : List ℕ) → AtMost before moved waiting
+    → InPart p list from moved waiting before from moved waiting 0
+part_start p list from before moved waiting most = record {
   at_most = let e : before + 0 ≡ before = omega arith in rw e most;
   counting = λ cs x. (cs, x, refl);
 }
 
-module _ {s : List ℕ} {l : Layout} {counts list : List ℕ} {from : State} {moved₀ waiting₀ : List ℕ} {before : ℕ} {vs ks : List ℕ} {ths : List Thread} {moved waiting : List ℕ} {i : ℕ}
-    (x : InPart s l counts list from moved₀ waiting₀ before vs ks ths moved waiting i) where
-  pub part_next : {o : Outcome} {vs' ks' : List ℕ} {ths' : List Thread} → i < length list → get_or list i 0 < thread_limit
-      → o ≡ outcome (program_of s l) (get_or list i 0) (state_in l vs ks ths)
-      → state_in l vs' ks' ths' ≡ step (program_of s l) (get_or list i 0) (state_in l vs ks ths)
-      → Kept l counts vs' ks' ths'
-      → InPart s l counts list from moved₀ waiting₀ before vs' ks' ths' (moved_after o (get_or list i 0) moved) (waiting_after o (get_or list i 0) waiting) (i + 1)
+module _ {p : Program} {list : List ℕ} {from : State} {moved₀ waiting₀ : List ℕ} {before : ℕ} {now : State} {moved waiting : List ℕ} {i : ℕ}
+    (x : InPart p list from moved₀ waiting₀ before now moved waiting i) where
+  pub part_next : {o : Outcome} {now' : State} → i < length list → get_or list i 0 < thread_limit
+      → o ≡ outcome p (get_or list i 0) now → now' ≡ step p (get_or list i 0) now
+      → InPart p list from moved₀ waiting₀ before now' (moved_after o (get_or list i 0) moved) (waiting_after o (get_or list i 0) waiting) (i + 1)
   unfolding run_from
-  part_next {o} h k e f kept = let t = get_or list i 0 in record {
-    kept = kept;
+  part_next {o} h k e f = let t = get_or list i 0 in record {
     at_most = let a : before + (i + 1) ≡ before + i + 1 = omega arith in rw a (at_most_next o t (before + i) moved waiting x.at_most);
     counting = λ cs n. let y = x.counting cs n in (counted_for t o y.0, numbers_next o t y.0 moved waiting k y.1, y.2 ∙ rw (drop-cons list i 0 h, add-one, e, f));
   }
 
   pub part_end : length list ≤ i → (cs : List Counts) → Numbers cs moved₀ waiting₀
-      → RunTo (run_from (program_of s l) (record { counts = cs; state = from }) list) (state_in l vs ks ths) moved waiting
+      → RunTo (run_from p (record { counts = cs; state = from }) list) now moved waiting
   unfolding run_from
   part_end h cs n =
       let y = x.counting cs n in
-      let e : run_from (program_of s l) (record { counts = cs; state = from }) list ≡ record { counts = y.0; state = state_in l vs ks ths } = y.2 ∙ rw (drop_of_length-le list {i = i} h) in
+      let e : run_from p (record { counts = cs; state = from }) list ≡ record { counts = y.0; state = now } = y.2 ∙ rw (drop_of_length-le list {i = i} h) in
       (ap (λ (r : Run). r.state) e, subst (λ (r : Run). Numbers r.counts moved waiting) (sym e) y.1)
 
 -- The parts
@@ -158,57 +138,70 @@ unfolding run_from
 run_append p r [] ys = refl
 run_append p r (x ∷ xs) ys = run_append p (after_entry p r x) xs ys
 
--- before the part at index i
-pub record Between (s : List ℕ) (l : Layout) (counts list vs₀ ks₀ : List ℕ) (ths₀ : List Thread) (vs ks : List ℕ) (ths : List Thread)
-    (moved waiting : List ℕ) (i : ℕ)
-    : Type 0 where
-  pub kept : Kept l counts vs ks ths
-  pub at_most : AtMost i moved waiting
+-- before the part with which the rest of the list begins: the entries before it have been run
+pub record Between (p : Program) (threads : ℕ) (list : List ℕ) (from now : State) (moved waiting : List ℕ) (before : ℕ) (rest : List ℕ) : Type 0 where
+  pub named : Entries threads rest
+  pub lengths : before + length rest ≡ length list
+  pub at_most : AtMost before moved waiting
   pub so_far : List Counts
   pub numbers : Numbers so_far moved waiting
-  pub runs : run_from (program_of s l) (from_here l vs₀ ks₀ ths₀) list
-      ≡ run_from (program_of s l) (record { counts = so_far; state = state_in l vs ks ths }) (drop i list)
+  pub runs : run_from p (record { counts = replicate thread_limit uncounted; state = from }) list ≡ run_from p (record { counts = so_far; state = now }) rest
 
-pub between_start : (s : List ℕ) {l : Layout} {counts : List ℕ} (list : List ℕ) {vs ks : List ℕ} {ths : List Thread} → Kept l counts vs ks ths
-    → Between s l counts list vs ks ths vs ks ths (replicate thread_limit 0) (replicate thread_limit 0) 0
-unfolding counts_of AtMost
-between_start s list kept = record {
-  kept = kept;
-  at_most = λ u h. rw (get_or-replicate_same {A = ℕ} thread_limit u 0) (omega arith, omega arith);
+pub between_start : (p : Program) (threads : ℕ) (list : List ℕ) (from : State) → Entries threads list
+    → Between p threads list from from (replicate thread_limit 0) (replicate thread_limit 0) 0 list
+unfolding AtMost counts_of
+between_start p threads list from named = record {
+  named = named;
+  lengths = omega arith;
+  at_most = λ t h. rw (get_or-replicate_same {A = ℕ} thread_limit t 0) (omega arith, omega arith);
   so_far = replicate thread_limit uncounted;
   numbers = record {
     threads = refl;
     moved_long = refl;
     waiting_long = refl;
-    moved_are = λ u h. rw (get_or-replicate_same thread_limit u uncounted, get_or-replicate_same {A = ℕ} thread_limit u 0);
-    waiting_are = λ u h. rw (get_or-replicate_same thread_limit u uncounted, get_or-replicate_same {A = ℕ} thread_limit u 0);
+    moved_are = λ t h. rw (get_or-replicate_same thread_limit t uncounted, get_or-replicate_same {A = ℕ} thread_limit t 0) refl;
+    waiting_are = λ t h. rw (get_or-replicate_same thread_limit t uncounted, get_or-replicate_same {A = ℕ} thread_limit t 0) refl;
   };
   runs = refl;
 }
 
-module _ {s : List ℕ} {l : Layout} {counts list vs₀ ks₀ : List ℕ} {ths₀ : List Thread} {vs ks : List ℕ} {ths : List Thread} {moved waiting : List ℕ} {i : ℕ}
-    (x : Between s l counts list vs₀ ks₀ ths₀ vs ks ths moved waiting i) where
-  -- so many entries are run
-  pub between_next : (n : ℕ) {vs' ks' : List ℕ} {ths' : List Thread} {moved' waiting' : List ℕ}
+-- what is left of a list of entries
+pub entries_drop : (n : ℕ) (list : List ℕ) (i : ℕ) → Entries n list → Entries n (drop i list)
+unfolding Entries
+entries_drop n list i e j h = rw (get_or-drop i list j 0) (e (i + j) (omega (arith, length-drop i list)))
+
+-- the entries of two lists, one after the other
+entries_append : (n : ℕ) (xs ys : List ℕ) → Entries n (xs ++ ys) → Entries n xs × Entries n ys
+entries_append n [] ys h = (entries_none n, h)
+entries_append n (x ∷ xs) ys h =
+    let both = entries_append n xs ys (entries_tail n x (xs ++ ys) h) in
+    (entries_more n x xs (entries_head n x (xs ++ ys) h) both.0, both.1)
+
+module _ {p : Program} {threads : ℕ} {list : List ℕ} {from now : State} {moved waiting : List ℕ} {before : ℕ} {rest : List ℕ}
+    (x : Between p threads list from now moved waiting before rest) where
+  pub part_named : (part rest' : List ℕ) → rest ≡ part ++ rest' → Entries threads part
+  part_named part rest' e = (entries_append threads part rest' (rw e at x.named)).0
+
+  -- a part is run
+  pub between_next : (part rest' : List ℕ) {now' : State} {moved' waiting' : List ℕ} → rest ≡ part ++ rest'
       → ((cs : List Counts) → Numbers cs moved waiting
-      → RunTo (run_from (program_of s l) (record { counts = cs; state = state_in l vs ks ths }) (take n (drop i list))) (state_in l vs' ks' ths') moved' waiting')
-      → AtMost (i + n) moved' waiting' → Kept l counts vs' ks' ths'
-      → Between s l counts list vs₀ ks₀ ths₀ vs' ks' ths' moved' waiting' (i + n)
-  between_next n {vs'} {ks'} {ths'} part most kept =
-      let p = program_of s l in
-      let r = run_from p (record { counts = x.so_far; state = state_in l vs ks ths }) (take n (drop i list)) in
-      let to = part x.so_far x.numbers in
+      → RunTo (run_from p (record { counts = cs; state = now }) part) now' moved' waiting')
+      → AtMost (before + length part) moved' waiting'
+      → Between p threads list from now' moved' waiting' (before + length part) rest'
+  between_next part rest' {now'} e ran most =
+      let r = run_from p (record { counts = x.so_far; state = now }) part in
+      let to = ran x.so_far x.numbers in
       record {
-        kept = kept;
+        named = (entries_append threads part rest' (rw e at x.named)).1;
+        lengths = let f : length rest ≡ length part + length rest' = ap length e ∙ length-append part rest' in omega (arith, f, x.lengths);
         at_most = most;
         so_far = r.counts;
         numbers = to.1;
         runs =
             x.runs
-            ∙ ap (run_from p (record { counts = x.so_far; state = state_in l vs ks ths })) (sym (take-append-drop n (drop i list)))
-            ∙ run_append p _ (take n (drop i list)) (drop n (drop i list))
-            ∙ ap (run_from p r) (drop-drop n i list)
-            ∙ ap (λ (here : State). run_from p (record { counts = r.counts; state = here }) (drop (i + n) list)) to.0;
+            ∙ ap (run_from p (record { counts = x.so_far; state = now })) e
+            ∙ run_append p _ part rest'
+            ∙ ap (λ (here : State). run_from p (record { counts = r.counts; state = here }) rest') to.0;
       }
 
 -- The end
@@ -241,22 +234,20 @@ pub record Whole (l : Layout) (counts list : List ℕ) (vs ks : List ℕ) (ths :
   pub names : (t : ℕ) → t < thread_limit → total (counts_of r.counts t) ≡ times_named t list
   pub active : (t : ℕ) → t < thread_limit → ((get_or ths t nobody).place ≡ get_or counts t 0 → ⊥) → (counts_of r.counts t).idle ≡ 0
 
--- what is left of a list of entries
-entries_drop : (n : ℕ) (list : List ℕ) (i : ℕ) → Entries n list → Entries n (drop i list)
-unfolding Entries
-entries_drop n list i e j h = rw (get_or-drop i list j 0) (e (i + j) (omega (arith, length-drop i list)))
-
-module _ {s : List ℕ} {l : Layout} {starts counts list vs₀ ks₀ : List ℕ} {ths₀ : List Thread} {vs ks : List ℕ} {ths : List Thread} {moved waiting : List ℕ} {i : ℕ}
-    (table : SectionTable s l starts counts) (entries : Entries l.threads list)
-    (x : Between s l counts list vs₀ ks₀ ths₀ vs ks ths moved waiting i) where
+module _ {s : List ℕ} {l : Layout} {starts counts vs ks : List ℕ} {ths : List Thread} {list : List ℕ} {from : State} {moved waiting : List ℕ} {before : ℕ} {rest : List ℕ}
+    (table : SectionTable s l starts counts) (kept : Kept l counts vs ks ths) (entries : Entries l.threads list)
+    (x : Between (program_of s l) l.threads list from (state_in l vs ks ths) moved waiting before rest) where
   abbrev p : Program
   p = program_of s l
 
   abbrev here : State
   here = state_in l vs ks ths
 
+  abbrev first : Run
+  first = record { counts = replicate thread_limit uncounted; state = from }
+
   abbrev whole : Run
-  whole = run_from p (from_here l vs₀ ks₀ ths₀) list
+  whole = run_from p first list
 
   none_counted : (t : ℕ) → counts_of (replicate thread_limit uncounted) t ≡ uncounted
   unfolding counts_of
@@ -264,16 +255,16 @@ module _ {s : List ℕ} {l : Layout} {starts counts list vs₀ ks₀ : List ℕ}
 
   -- of each thread all of its entries are counted
   all_named : (t : ℕ) → t < thread_limit → total (counts_of whole.counts t) ≡ times_named t list
-  all_named = uncounted_named p (state_in l vs₀ ks₀ ths₀) list
+  all_named = uncounted_named p from list
 
   -- a thread that is not at its end was never idle, and one that is not there neither
   not_ended : whole.state ≡ here → (t : ℕ) → ((get_or ths t nobody).place ≡ get_or counts t 0 → ⊥) → (counts_of whole.counts t).idle ≡ 0
   not_ended e t n = dite (dec_lt t l.threads)
       (λ (h : t < l.threads).
-      never_idle p (from_here l vs₀ ks₀ ths₀) list t (λ z. not_at_end table x.kept t h n (subst (λ (s : State). AtEnd p s t) e z))
+      never_idle p first list t (λ z. not_at_end table kept t h n (subst (λ (s : State). AtEnd p s t) e z))
       ∙ ap (λ (c : Counts). c.idle) (none_counted t))
       (λ (k : ¬ (t < l.threads)).
-      ap (λ (c : Counts). c.idle) (from_absent p (from_here l vs₀ ks₀ ths₀) list l.threads entries t (omega (arith, k)) ∙ none_counted t))
+      ap (λ (c : Counts). c.idle) (from_absent p first list l.threads entries t (omega (arith, k)) ∙ none_counted t))
 
   ends : whole.state ≡ here → Numbers whole.counts moved waiting → Whole l counts list vs ks ths moved waiting whole
   ends e numbers = record { state = e; numbers = numbers; names = all_named; active = λ t _. not_ended e t }
@@ -281,25 +272,35 @@ module _ {s : List ℕ} {l : Layout} {starts counts list vs₀ ks₀ : List ℕ}
   -- where every thread is at its end
   quiet_numbers : Quiet here x.so_far whole → Numbers whole.counts moved waiting
   quiet_numbers q = record {
-    threads = length-counts p (from_here l vs₀ ks₀ ths₀) list;
+    threads = length-counts p first list;
     moved_long = x.numbers.moved_long;
     waiting_long = x.numbers.waiting_long;
     moved_are = λ u h. q.1 u ∙ x.numbers.moved_are u h;
     waiting_are = λ u h. q.2 u ∙ x.numbers.waiting_are u h;
   }
 
-  pub between_end : (i < length list → (t : ℕ) → t < l.threads → (get_or ths t nobody).place ≡ get_or counts t 0)
+  pub between_end : (before < length list → (t : ℕ) → t < l.threads → (get_or ths t nobody).place ≡ get_or counts t 0)
       → Whole l counts list vs ks ths moved waiting whole
   unfolding run_from program_of
-  between_end ended = elim (dec_lt i (length list)) [
+  between_end ended = elim (dec_lt before (length list)) [
     | yes h ↦
-        let still : (t : ℕ) → t < l.threads → (Idle ≡ outcome p t here) × (here ≡ step p t here) = λ t k. step_idle table x.kept t k (ended h t k) in
-        let q = subst (Quiet here x.so_far) (sym x.runs) (quiet p here still x.so_far (drop i list) (entries_drop l.threads list i entries)) in
+        let still : (t : ℕ) → t < l.threads → (Idle ≡ outcome p t here) × (here ≡ step p t here) = λ t k. step_idle table kept t k (ended h t k) in
+        let q = subst (Quiet here x.so_far) (sym x.runs) (quiet p here still x.so_far rest x.named) in
         ends q.0 (quiet_numbers q)
     | no h ↦
-        let e : whole ≡ record { counts = x.so_far; state = here } = x.runs ∙ rw (drop_of_length-le list {i = i} (omega (arith, h))) in
+        let none : length rest ≡ 0 = omega (arith, h, x.lengths) in
+        let e : whole ≡ record { counts = x.so_far; state = here } = x.runs ∙ rw (nil_from_length rest none) in
         ends (ap (λ (r : Run). r.state) e) (subst (λ (r : Run). Numbers r.counts moved waiting) (sym e) x.numbers)
   ]
+
+  -- every thread is at its end: the rest is idle
+  pub ended_early : Ended counts ths → Whole l counts list vs ks ths moved waiting whole
+  unfolding Ended
+  ended_early ended = between_end (λ _ t k. ended t (omega (arith, table.sound.threads)))
+
+  -- nothing is left
+  pub all_run : length rest ≡ 0 → Whole l counts list vs ks ths moved waiting whole
+  all_run none = between_end (λ h t k. omega (arith, h, none, x.lengths))
 
 -- a thread's counts by two of them and their sum
 counts_are : (c : Counts) {m w n : ℕ} → c.moved ≡ m → c.waiting ≡ w → total c ≡ n → c ≡ record { moved = m; waiting = w; idle = n - (m + w) }
@@ -309,13 +310,13 @@ counts_are c e f g =
     rw (← e, ← f, ← g) (ap (λ (n : ℕ). record { moved = c.moved; waiting = c.waiting; idle = n }) d)
 
 module _ {l : Layout} {counts list vs ks : List ℕ} {ths : List Thread} {moved waiting : List ℕ} {r : Run} (x : Whole l counts list vs ks ths moved waiting r) where
-  pub whole_tally : (places : List ℕ) → ((t : ℕ) → t < thread_limit → (get_or ths t nobody).place ≡ get_or places t 0) → Tally list counts places moved waiting
+  pub whole_tally : Tally list counts ths moved waiting
   unfolding Tally total
-  whole_tally places there t h =
+  whole_tally t h =
       let n = x.numbers in (
         omega (arith, x.names t h, n.moved_are t h, n.waiting_are t h),
         λ e.
-            let idle = x.active t h (λ z. eqb-false (get_or places t 0) (get_or counts t 0) e (sym (there t h) ∙ z)) in
+            let idle = x.active t h (eqb-false (get_or ths t nobody).place (get_or counts t 0) e) in
             omega (arith, x.names t h, n.moved_are t h, n.waiting_are t h, idle),
       )
 

@@ -2,22 +2,21 @@
 --     effect_of_lem      an instruction has its own effect
 --     does_branch        what IF and WHILE do, from the register's test
 --     effect_thread      the thread after an instruction of this effect
---     registers_moved the registers after a Move
+--     registers_moved    the registers after a Move
 --     Accesses           what an instruction that does not wait does to what the threads share
 --     accesses           ... by its access
---     thread_moved_lem   the thread laid into its place has moved by the instruction
-use Rattle.std.proofs.Common.{◌≡◌, ℕ, ◌+◌, ◌<◌, Bool, true, false, eqb, List, [], length, get_or, set, refl, ap, ◌∙◌}
+--     thread_moved_lem   the thread's record, moved where it stands, has moved by the instruction
+use Rattle.std.proofs.Common.{◌≡◌, ℕ, ◌+◌, Bool, true, false, eqb, List, get_or, set, refl, ap, ◌∙◌}
 use Rattle.program.specs.View.{Access, none, access_of}
 use Rattle.program.specs.Choice.{choose}
 use Rattle.program.specs.declared.instruction.Instruction.{Instruction}
 use Rattle.machine.specs.Step.{reg, Result, keeps, result_of, stored, branch, place_after, registers_after, thread_after, waits, value_read, variables_after, locks_after}
 use Rattle.machine.specs.Internal.Effect.{Effect, Does, MovedBy}
-use Rattle.machine.specs.Internal.Kept.{thread_in, threads_in, move_thread}
+use Rattle.machine.specs.Internal.Kept.{nobody, move_thread}
 use Rattle.machine.specs.declared.moves.Move.{Move}
 use Rattle.machine.specs.declared.moves.Move.TheVariants.{Goes, Passes}
 use Rattle.machine.specs.declared.thread.Outcome.TheVariants.{Moved, Waiting}
 use Rattle.machine.specs.declared.thread.Thread.{Thread}
-use Rattle.machine.proofs.Threads.{threads_at}
 
 pub effect_of_lem : {i : Instruction} {r : List ℕ} {place : ℕ} → Effect i r place (access_of i) (λ x. result_of i x r) (place_after i r place)
 effect_of_lem = record { access = refl; results = λ x. refl; goes = refl }
@@ -40,7 +39,6 @@ pub effect_thread : {i : Instruction} {th : Thread} {a : Access} {result : ℕ �
 unfolding thread_after registers_after
 effect_thread e x = rw (e.goes, e.results x)
 
--- the registers after a Move: those with its result stored
 pub registers_moved : (i : Instruction) (m : Move) (x : ℕ) (before after : Thread) {a : Access} {result : ℕ → Result} {next : ℕ} → MovedBy m x before after
     → Does i before.registers before.place m → Effect i before.registers before.place a result next
     → after.registers ≡ stored (result x) before.registers
@@ -58,8 +56,8 @@ pub accesses : (i : Instruction) (t : ℕ) (r vs ks : List ℕ) {a : Access} →
     → Accesses i t r vs ks (variables_after a r vs) (locks_after a t ks) (value_read a vs)
 accesses i t r vs ks e w = rw e (rw w, refl, refl, refl)
 
--- the thread laid into its place has moved by the instruction
-pub thread_moved_lem : (i : Instruction) (m : Move) (x t : ℕ) (vs ps : List ℕ) (rs : List (List ℕ)) (th : Thread) → t < length (threads_in ps rs)
-    → Does i (get_or rs t []) (get_or ps t 0) m → x ≡ value_read (access_of i) vs → MovedBy m x (thread_in ps rs t) th
-    → set (threads_in ps rs) t th ≡ move_thread i vs t (threads_in ps rs)
-thread_moved_lem i m x t vs ps rs th h d e f = rw (threads_at ps rs t h, ← e) (ap (set (threads_in ps rs) t) (f i d))
+-- the thread's record, moved where it stands, has moved by the instruction
+pub thread_moved_lem : (i : Instruction) (m : Move) (x t : ℕ) (vs : List ℕ) (ths ths' : List Thread) (th : Thread) → ths' ≡ ths
+    → Does i (get_or ths t nobody).registers (get_or ths t nobody).place m → x ≡ value_read (access_of i) vs → MovedBy m x (get_or ths' t nobody) th
+    → set ths' t th ≡ move_thread i vs t ths
+thread_moved_lem i m x t vs ths ths' th e d v f = rw e (ap (set ths t) (rw v at ((rw e at f) i d)))

@@ -1,13 +1,12 @@
 -- What a sound file's instruction reaches, and where it goes. Assumes nothing.
 --     fields_eq      equal instructions: the fields of one are right if the other's are
 --     place_inside   from a place of well nested code an instruction goes to a place of that code, or to its end
-use Rattle.std.proofs.Common.{◌≡◌, ℕ, ◌+◌, ◌<◌, ◌≤◌, Bool, true, false, eqb, List, [], length, get_or, subst, arith}
+use Rattle.std.proofs.Common.{◌≡◌, ℕ, ◌+◌, ◌<◌, ◌≤◌, Bool, true, false, eqb, List, [], length, get_or, subst, arith, None}
 use Rattle.program.specs.Choice.{choose}
 use Rattle.program.specs.View.{form_of, Form, Plain, If, Else, While, Again, Atomic, End}
 use Rattle.program.specs.Nesting.{first_broken}
 use Rattle.program.specs.Internal.Sound.{FieldsGood}
 use Rattle.program.specs.Internal.WellFormed.{Jump}
-use Rattle.program.specs.declared.found.Found.TheVariants.{Nowhere}
 use Rattle.program.specs.declared.instruction.Instruction.{Instruction}
 use Rattle.program.specs.declared.instruction.Instruction.TheVariants as instruction
 use Rattle.program.proofs.Jumps.{jump}
@@ -33,7 +32,7 @@ place_behind_inside (Again n) r place q l j = omega arith
 place_behind_inside (Atomic n) r place q l j = omega arith
 place_behind_inside End r place q l j = omega arith
 
-pub place_inside : (is : List Instruction) → first_broken 0 is [] ≡ Nowhere → (r : List ℕ) (place : ℕ) → place < length is
+pub place_inside : (is : List Instruction) → first_broken 0 is [] ≡ None → (r : List ℕ) (place : ℕ) → place < length is
     → place_after (get_or is place instruction.End) r place ≤ length is
 unfolding place_after
 place_inside is nested r place l =

@@ -5,11 +5,11 @@
 --     Block        where a thread stands inside a block
 --     Fields       what a sound file's instruction reaches, and where it goes
 --     Kept         the state in arrays, through one entry
---     Threads      threads in two arrays
 --     Effect       what an instruction does, as the code says it
 --     Ends         a thread that is not at its end was never idle
 --     Entry        a run after one entry
 --     Between      the loop over the entries of a list
+--     Threads      threads by two lists, places and registers
 --     Start        the initial values, as a loop finds them; the start in arrays
 --     StateBytes   the state's bytes, as loops write them
 --     Shape        how long the lists of a state are, and how many bytes it has
@@ -20,11 +20,11 @@ pub mod Sums
 pub mod Block
 pub mod Fields
 pub mod Kept
-pub mod Threads
 pub mod Effect
 pub mod Ends
 pub mod Entry
 pub mod Between
+pub mod Threads
 pub mod Start
 pub mod StateBytes
 pub mod Shape

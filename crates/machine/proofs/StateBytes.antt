@@ -1,11 +1,12 @@
 -- The state's bytes, as loops write them. Assumes nothing.
+--     pair_bytes-part        two bytes of a number are those of it modulo 65536
 --     write_each             a turn of the loop that writes element by element
 --     length-words, length-first_words
 --                            the bytes of numbers, and of the first n of them
 --     length-thread, length-first_threads
 --                            ... of a thread with eight registers, and of the first n of them
 --     write_state            variables, locks and threads one after the other are the state
-use Rattle.std.proofs.Common.{◌≡◌, ℕ, suc, ◌+◌, ◌*◌, ◌<◌, ◌≤◌, List, ◌++◌, length, get_or, take, refl, ap, ◌∙◌, zero-add, arith, length-append, length-take-le, get_or-take}
+use Rattle.std.proofs.Common.{◌≡◌, ℕ, suc, ◌+◌, ◌*◌, ◌/◌, ◌%◌, ◌<◌, ◌≤◌, List, ◌++◌, length, get_or, take, refl, ap, ◌∙◌, zero-add, arith, length-append, length-take-le, get_or-take}
 use mathlib.Core.List.{flat_map}
 use lib.Seq.{sets}
 use Rattle.program.specs.Limits.{register_count, thread_size}
@@ -13,6 +14,10 @@ use Rattle.program.proofs.Lists.{sets-append, flat_map-next, length-flat_map}
 use Rattle.machine.specs.State.{State, pair_bytes, word_bytes, thread_bytes, state_bytes}
 use Rattle.machine.specs.Internal.Kept.{nobody}
 use Rattle.machine.specs.declared.thread.Thread.{Thread}
+
+-- two bytes say no more of a number than this
+pub pair_bytes-part : (n : ℕ) → (n % 65536 / 256 % 256 ≡ n / 256 % 256) × (n % 65536 % 256 ≡ n % 256)
+pair_bytes-part n = (omega arith, omega arith)
 
 module _ {A : Type 0} (bytes : A → List ℕ) where
   -- the first i elements are written from `at` on, and the next one after them

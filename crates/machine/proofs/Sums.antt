@@ -1,7 +1,7 @@
 -- Every entry is counted once, for its thread. Assumes nothing.
 --     counted_once    by its outcome
---     entries_head, entries_tail
---                     a list of entries that begins with one
+--     entries_head, entries_tail, entries_none, entries_more
+--                     a list of entries, by its first
 --     count_kept      a count that an entry does not change
 --     counted_named   one entry, by the thread that it names
 --     length-counted, length-counts
@@ -39,6 +39,15 @@ entries_head n t ts e = e 0 (omega arith)
 pub entries_tail : (n t : ℕ) (ts : List ℕ) → Entries n (t ∷ ts) → Entries n ts
 unfolding Entries
 entries_tail n t ts e i h = e (suc i) (omega arith)
+
+pub entries_none : (n : ℕ) → Entries n []
+unfolding Entries
+entries_none n i h = absurd (let z : ⊥ = omega arith in z)
+
+pub entries_more : (n t : ℕ) (ts : List ℕ) → t < n → Entries n ts → Entries n (t ∷ ts)
+unfolding Entries
+entries_more n t ts h e zero k = h
+entries_more n t ts h e (suc i) k = e i (omega arith)
 
 -- one entry, of each thread
 pub length-counted : (t : ℕ) (o : Outcome) (cs : List Counts) → length (counted_for t o cs) ≡ length cs

@@ -1,11 +1,22 @@
--- Threads in two arrays, their places and their registers. Assumes nothing.
+-- Threads by two lists, their places and their registers, as a run kept them up to landing 11 (docs/LANDINGS.md names the laws). Nothing cites
+-- them since a run keeps records. Assumes nothing.
+--     thread_in, threads_in   a thread of two lists, and all of them
 --     threads_at      a thread, by its number
 --     threads_set     another one at a number
 --     threads_place   ... with the same registers
 use Rattle.std.proofs.Common.{◌≡◌, ℕ, zero, suc, ◌<◌, List, [], ◌∷◌, length, get_or, set, sym, refl, ap, ◌∙◌, arith}
+use Rattle.std.specs.Prelude.{slice_index, slice_index_or}
 use lib.Seq.{set-get_or}
-use Rattle.machine.specs.Internal.Kept.{thread_in, threads_in, nobody}
+use Rattle.machine.specs.Internal.Kept.{nobody}
 use Rattle.machine.specs.declared.thread.Thread.{Thread}
+
+abbrev pub thread_in : List ℕ → List (List ℕ) → ℕ → Thread
+thread_in places registers t = record { place = slice_index places t; registers = slice_index_or registers t [] }
+
+unfoldable pub threads_in : List ℕ → List (List ℕ) → List Thread
+threads_in [] registers = []
+threads_in (p ∷ places) [] = []
+threads_in (p ∷ places) (r ∷ registers) = record { place = p; registers = r } ∷ threads_in places registers
 
 pub threads_at : (places : List ℕ) (registers : List (List ℕ)) (t : ℕ) → t < length (threads_in places registers)
     → get_or (threads_in places registers) t nobody ≡ thread_in places registers t

@@ -5,5 +5,6 @@ pub mod counts;
 pub mod moves;
 pub mod prepare;
 pub mod run;
+pub mod running;
 pub mod state_bytes;
 pub mod thread;

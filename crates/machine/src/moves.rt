@@ -10,7 +10,7 @@ use program::instruction::Instruction;
 use program::limits::REGISTER_COUNT;
 
 // All but Goes go to the next place.
-#[derive(Clone, Copy)]
+#[derive(Clone, Copy, PartialEq, Eq)]
 pub enum Move {
     // A value into a register.
     Sets(u8, u32),
@@ -27,25 +27,11 @@ pub enum Move {
     Passes,
 }
 
-// ADD: modulo 2^32.
-fn sum(b: u32, c: u32) -> u32
-    ensures { result ≡ (b + c) % 2 ^ 32 }
-{
-    std::num::wrapping_add_u32(b, c)
-}
-
-// SUB: the second taken from the first, modulo 2^32.
-fn difference(b: u32, c: u32) -> u32
-    ensures { result ≡ (b + (2 ^ 32 - c)) % 2 ^ 32 }
-{
-    std::num::wrapping_sub_u32(b, c)
-}
-
 // LESS: 1 if the first is below the second, else 0.
 fn less(b: u32, c: u32) -> u32
     ensures { result ≡ choose (nat_lt b c) 1 0 }
 {
-    if b < c { 1 } else { 0 }
+    u32::from(b < c)
 }
 
 // Where IF and WHILE go: the next place if the register is not 0, else one past the named place.
@@ -54,42 +40,32 @@ fn branch(x: u32, n: u16, place: usize) -> Move
     ensures { result ≡ choose (x == 0) (Move.Goes (place + n + 1)) Move.Passes }
 {
     if x == 0 {
-        return Move::Goes(place + n as usize + 1);
+        return Move::Goes(place + usize::from(n) + 1);
     }
     Move::Passes
 }
 
-// Where AGAIN goes: back by its distance, to its WHILE. Nested code never comes to the 0, which subtraction of natural numbers answers.
-fn back(place: usize, n: u16) -> usize
-    ensures { result ≡ place - n }
-{
-    let distance = n as usize;
-    if distance <= place {
-        return place - distance;
-    }
-    0
-}
-
-// What an instruction does at a place, with the registers of thread t.
-pub fn move_of(i: Instruction, r: &[[u32; REGISTER_COUNT]], t: usize, place: usize) -> Move
-    requires { FieldsGood lock_limit variable_limit i × (place ≤ largest_place) × (t < length r.now) }
-    ensures { Does i (slice_index_or r.now t []) place result }
+// What an instruction does at a place, with these registers. AGAIN goes back by its distance, to its WHILE: nested code never comes to the 0
+// at which the subtraction stops.
+#[tactic(auto, unfolding(crate::specs::Internal::Effect::Does, program::specs::View::access_of, program::specs::View::form_of, crate::specs::Step::result_of, crate::specs::Step::place_after, crate::specs::Step::place_behind), using(crate::proofs::Effect::effect_of_lem, crate::proofs::Effect::does_branch))]
+pub fn move_of(i: Instruction, r: &[u32; REGISTER_COUNT], place: usize) -> Move
+    requires { FieldsGood lock_limit variable_limit i × (place ≤ largest_place) }
+    ensures { Does i r.now place result }
 {
     match i {
-        Instruction::Set(a, n) => Move::Sets(a, n as u32),
-        Instruction::Copy(a, b) => Move::Sets(a, r[t][b as usize]),
-        Instruction::Add(a, b, c) => Move::Sets(a, sum(r[t][b as usize], r[t][c as usize])),
-        Instruction::Sub(a, b, c) => Move::Sets(a, difference(r[t][b as usize], r[t][c as usize])),
-        Instruction::Less(a, b, c) => Move::Sets(a, less(r[t][b as usize], r[t][c as usize])),
+        Instruction::Set(a, n) => Move::Sets(a, u32::from(n)),
+        Instruction::Copy(a, b) => Move::Sets(a, r[b as usize]),
+        Instruction::Add(a, b, c) => Move::Sets(a, r[b as usize].wrapping_add(r[c as usize])),
+        Instruction::Sub(a, b, c) => Move::Sets(a, r[b as usize].wrapping_sub(r[c as usize])),
+        Instruction::Less(a, b, c) => Move::Sets(a, less(r[b as usize], r[c as usize])),
         Instruction::Read(a, v) => Move::Reads(a, v),
-        Instruction::Write(a, v) => Move::Writes(v, r[t][a as usize]),
+        Instruction::Write(a, v) => Move::Writes(v, r[a as usize]),
         Instruction::Take(k) => Move::Takes(k),
         Instruction::Give(k) => Move::Gives(k),
-        Instruction::If(a, n) => branch(r[t][a as usize], n, place),
-        Instruction::Else(n) => Move::Goes(place + n as usize),
-        Instruction::While(a, n) => branch(r[t][a as usize], n, place),
-        Instruction::Again(n) => Move::Goes(back(place, n)),
-        Instruction::Atomic(_, _) => Move::Passes,
-        Instruction::End => Move::Passes,
+        Instruction::If(a, n) => branch(r[a as usize], n, place),
+        Instruction::Else(n) => Move::Goes(place + usize::from(n)),
+        Instruction::While(a, n) => branch(r[a as usize], n, place),
+        Instruction::Again(n) => Move::Goes(place.saturating_sub(usize::from(n))),
+        Instruction::Atomic(_, _) | Instruction::End => Move::Passes,
     }
 }

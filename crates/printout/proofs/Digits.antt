@@ -4,17 +4,12 @@
 --     decimal_length                how many digits a number below a power of ten has
 --     decimal_small, decimal_large  a number in decimal, by its last digit
 --     decimal_large_length          it has one digit more than its tenth
-use mathlib.Core.Path.{◌≡◌, sym, ap, ◌∙◌}
-use mathlib.Core.Logic.{◌⊎◌, inl, inr, ⊎_elim}
-use mathlib.Core.List.{List, [], ◌∷◌, ◌++◌, flat_map, append-nil}
-use Prim.Native.Nat.{ℕ, zero, suc, ◌+◌, ◌/◌, ◌%◌, ◌^◌, ◌≤◌, ◌<◌}
-use native.Mathlib.Omega.{arith, not-le}
-use native.Mathlib.Nat.{pow-suc}
-use lib.ListN.{length, get_or, take, drop, length-append, length-drop}
-use lib.Seq.{take-suc, get_or-drop}
+--     short_digits, byte_digits, word_digits, size_digits
+--                                   how many digits a number below 100,000 has, a byte, a word, a number of 64 bits
+use Rattle.std.proofs.Common.{◌≡◌, sym, ap, ◌∙◌, ◌⊎◌, inl, inr, ⊎_elim, List, [], ◌∷◌, ◌++◌, ℕ, zero, suc, ◌+◌, ◌/◌, ◌%◌, ◌^◌, ◌≤◌, ◌<◌, arith, pow-suc, length, get_or, take, drop, flat_map, length-append, length-drop, append-nil, take-suc, get_or-drop, lt-ltb, le-ltb}
+use Rattle.std.proofs.lemmas.Grind.{flat_map-append}
+use native.Mathlib.Omega.{not-le}
 use native.Mathlib.Decide.{dec_le}
-use borrow.Author.Tests.{lt-ltb, le-ltb}
-use Rattle.program.proofs.Lists.{flat_map-append}
 use Rattle.printout.specs.Text.{hex, digits, decimal}
 use Rattle.printout.specs.Line.{raw}
 
@@ -22,7 +17,7 @@ use Rattle.printout.specs.Line.{raw}
 
 -- one raw byte more
 pub raw_more : (s : List ℕ) (from i : ℕ) → from + i < length s → raw s from (suc i) ≡ raw s from i ++ hex (get_or s (from + i) 0)
-unfolding raw flat_map
+unfolding raw
 raw_more s from i h =
     ap (flat_map hex) (take-suc (drop from s) i 0 (rw (length-drop from s) (omega arith)))
     ∙ flat_map-append hex (take i (drop from s)) (get_or (drop from s) i 0 ∷ [])
@@ -84,3 +79,16 @@ decimal_large n l h = digits_large 19 n l ∙ ap (λ (z : List ℕ). z ++ (48 + 
 
 pub decimal_large_length : (n : ℕ) → 10 ≤ n → n < 10 ^ 20 → length (decimal n) ≡ length (decimal (n / 10)) + 1
 decimal_large_length n l h = ap length (decimal_large n l h) ∙ length-append (decimal (n / 10)) ((48 + n % 10) ∷ [])
+
+-- how many digits the numbers of each type have
+pub short_digits : (n : ℕ) → n < 100000 → length (decimal n) ≤ 5
+short_digits n h = decimal_length 4 n h
+
+pub byte_digits : (n : ℕ) → n < 256 → length (decimal n) ≤ 3
+byte_digits n h = decimal_length 2 n (omega arith)
+
+pub word_digits : (n : ℕ) → n < 4294967296 → length (decimal n) ≤ 10
+word_digits n h = decimal_length 9 n (omega arith)
+
+pub size_digits : (n : ℕ) → n < 18446744073709551616 → length (decimal n) ≤ 20
+size_digits n h = decimal_length 19 n (omega arith)

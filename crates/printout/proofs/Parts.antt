@@ -15,14 +15,8 @@
 --     line_head, line_variable, line_item
 --                            a line of the head, of a variable, and one behind those
 --     length-lines           how many lines there are
-use mathlib.Core.Path.{◌≡◌, refl, sym, ap, ◌∙◌}
-use mathlib.Core.List.{List, [], ◌∷◌, ◌++◌, append_assoc}
-use Prim.Native.Nat.{ℕ, zero, suc, ◌+◌, ◌-◌, ◌*◌, ◌≤◌, ◌<◌}
-use native.Mathlib.Nat.{add-zero, zero-add}
-use native.Mathlib.Numerals.{add-one, one-add}
-use native.Mathlib.Omega.{arith}
-use lib.ListN.{length, get_or, drop, length-append, get_or-append}
-use lib.Seq.{get_or-append-add, get_or-drop, drop-drop, drop-cons, drop_at}
+use Rattle.std.proofs.Common.{◌≡◌, refl, sym, ap, ◌∙◌, List, [], ◌∷◌, ◌++◌, append_assoc, ℕ, zero, suc, ◌+◌, ◌-◌, ◌*◌, ◌≤◌, ◌<◌, add-zero, zero-add, add-one, one-add, arith, length, get_or, drop, length-append, get_or-append-add, get_or-drop, drop-drop, drop-cons, drop_at}
+use lib.ListN.{get_or-append}
 use Rattle.program.specs.Instruction.{decode_at, decoded_instruction}
 use Rattle.program.specs.Layout.{CodeSection, variables_at, program_of}
 use Rattle.program.specs.Limits.{records_start, record_offset}
@@ -203,22 +197,27 @@ module _ {s : List ℕ} {l : Layout} {starts counts : List ℕ} (x : SectionTabl
     in_codes : t < l.threads → t < length (program_of s l).codes
     in_codes h = omega (arith, codes_length s l)
 
-    pub item_thread : ItemAt counts l.threads i (Thread t) → thread_line s (get_or starts t 0 - 2) t (get_or counts t 0) ≡ get_or (item_lines s l report) i []
-    item_thread (h, e) = sym (
+    pub item_thread : (head : ℕ) → head + 2 ≡ get_or starts t 0 → ItemAt counts l.threads i (Thread t)
+        → thread_line s head t (get_or counts t 0) ≡ get_or (item_lines s l report) i []
+    item_thread head f (h, e) =
+        let before : get_or starts t 0 - 2 ≡ head = omega arith in
+        sym (
         item_of_codes i (omega (arith, report_inside x t h, x.total))
         ∙ ap (λ (n : ℕ). get_or (section_lines s 0 (program_of s l).codes report) n []) e
         ∙ section_thread s (program_of s l).codes counts report codes_counted t (in_codes h)
-        ∙ rw ((x.located t h).section, length-instructions l.locks l.variables s (get_or counts t 0) (get_or starts t 0))
+        ∙ rw ((x.located t h).section, length-instructions l.locks l.variables s (get_or counts t 0) (get_or starts t 0), before)
         )
 
     pub item_code : (place : ℕ) → ItemAt counts l.threads i (Code t place)
-        → instruction_line s (get_or starts t 0 + 4 * place) place (decoded_instruction (decode_at l.locks l.variables s (get_or starts t 0 + 4 * place))) (get_or report (bytes_before counts t + place) 0)
+        → instruction_line s (get_or starts t 0 + 4 * place) place (decoded_instruction (decode_at l.locks l.variables s (get_or starts t 0 + 4 * place))) (get_or report (i - 1) 0)
         ≡ get_or (item_lines s l report) i []
-    item_code place (h, b, e) = sym (
+    item_code place (h, b, e) =
+        let byte : i - 1 ≡ bytes_before counts t + place = omega arith in
+        sym (
         item_of_codes i (omega (arith, report_inside x t h, x.total))
         ∙ ap (λ (n : ℕ). get_or (section_lines s 0 (program_of s l).codes report) n []) e
         ∙ section_code s (program_of s l).codes counts report codes_counted t (in_codes h) place (omega (arith, codes_counted t (in_codes h)))
-        ∙ rw ((x.located t h).section, get_or-instructions l.locks l.variables s (get_or counts t 0) (get_or starts t 0) place b)
+        ∙ rw ((x.located t h).section, get_or-instructions l.locks l.variables s (get_or counts t 0) (get_or starts t 0) place b, byte)
         )
 
     pub item_whole : ItemAt counts l.threads i (Whole t) → whole_line t (bytes_before counts t + get_or counts t 0) report ≡ get_or (item_lines s l report) i []

@@ -1,10 +1,9 @@
 -- The lines see of the report's buffer the report alone. For callers that keep the report in a longer array. Assumes nothing.
---     lines_report   what stands after the report changes no line
-use mathlib.Core.Path.{◌≡◌, refl}
-use mathlib.Core.List.{List, [], ◌∷◌, ◌++◌}
-use Prim.Native.Nat.{ℕ, suc, ◌+◌, ◌≤◌}
-use native.Mathlib.Omega.{arith}
-use lib.ListN.{length, drop, length-drop, get_or-append}
+--     code_report_lem, sections_report, wholes_report
+--                    what stands after the report changes no line of code, of the codes, of the wholes
+--     lines_report   it changes no line
+use Rattle.std.proofs.Common.{◌≡◌, refl, List, [], ◌∷◌, ◌++◌, ℕ, suc, ◌+◌, ◌≤◌, arith, length, drop, length-drop}
+use lib.ListN.{get_or-append}
 use lib.Seq.{drop-append-le}
 use Rattle.program.specs.Layout.{CodeSection, program_of}
 use Rattle.program.specs.Internal.Sound.{SoundFile, report_size}

@@ -8,18 +8,10 @@
 --     head_short, variable_short, instruction_short, ..
 --                                      each kind of line
 --     lines_short, no_longer_line      the lines of a sound file
-use Prim.Native.Nat.{ℕ, zero, suc, ◌+◌, ◌-◌, ◌*◌, ◌<◌, ◌≤◌}
+use Rattle.std.proofs.Common.{ℕ, zero, suc, ◌+◌, ◌-◌, ◌*◌, ◌<◌, ◌≤◌, ◌≡◌, refl, ap, ◌∙◌, Bool, true, false, List, [], ◌∷◌, ◌++◌, flat_map, Some, None, ltb, eqb, length, get_or, take, drop, length-append, length-take, arith, ltb-true}
 use Prim.Native.String.{String}
-use mathlib.Core.Path.{◌≡◌, refl, ap, ◌∙◌}
-use mathlib.Core.Bool.{Bool, true, false}
-use mathlib.Core.List.{List, [], ◌∷◌, ◌++◌}
-use lib.Dec.{ltb, eqb}
-use lib.ListN.{length, get_or, take, drop, length-append, length-take}
-use native.Mathlib.Omega.{arith}
-use borrow.Author.Tests.{ltb-true}
 use Rattle.program.proofs.Contents.{length-instructions, length-variables}
 use Rattle.program.proofs.Decode.{decode_holds}
-use Rattle.program.proofs.Lists.{length-flat_map}
 use Rattle.program.specs.Choice.{choose}
 use Rattle.program.specs.Field.{byte_at, word_at}
 use Rattle.program.specs.Instruction.{decode, decode_at, decoded_instruction}
@@ -30,12 +22,11 @@ use Rattle.program.specs.Variable as recordings
 use Rattle.program.specs.Internal.Sound.{SoundSections, SoundFile, count_at}
 use Rattle.program.specs.declared.layout.Layout.{Layout}
 use Rattle.program.specs.declared.variable.Kind.TheVariants.{Guarded, Own, Fixed, Open}
-use Rattle.program.specs.declared.variable.Recorded.TheVariants.{Valid, Invalid}
 use Rattle.printout.specs.Line.{raw, numbered, letter, head_line, kind_words, variable_line, variable_lines, stated_words, instruction_words, instruction_line, code_lines, section_lines, whole_lines, lines}
 use Rattle.printout.specs.Text.{ascii, hex, decimal, spaced, line_of}
 use Rattle.printout.specs.Internal.Writing.{ended}
 use Rattle.printout.proofs.Digits.{decimal_length}
-use Rattle.printout.proofs.Stored.{line_of_more}
+use Rattle.printout.proofs.Said.{line_of_more}
 
 -- ---- words
 
@@ -54,9 +45,14 @@ line_width w (v ∷ vs) =
     ap length (line_of_more w v vs)
     ∙ omega (arith, length-append (ended w 32) (line_of (v ∷ vs)), length-append w (32 ∷ []), line_width v vs)
 
+hex_length : (bytes : List ℕ) → length (flat_map hex bytes) ≡ 2 * length bytes
+unfolding hex
+hex_length [] = refl
+hex_length (b ∷ bytes) = omega (arith, hex_length bytes)
+
 raw_width : (s : List ℕ) (at n : ℕ) → length (raw s at n) ≤ 2 * n
 unfolding raw hex
-raw_width s at n = omega (arith, length-flat_map hex 2 (take n (drop at s)) 0 (λ i l. refl), length-take n (drop at s))
+raw_width s at n = omega (arith, hex_length (take n (drop at s)), length-take n (drop at s))
 
 letter_width : (b : ℕ) → length (letter b) ≤ 1
 unfolding letter
@@ -79,10 +75,10 @@ kind_width locks threads kind g few_locks few_threads =
   where
     cases : (a : Bool) (b : Bool) → ltb g locks ≡ b → (c : Bool) (d : Bool) → ltb g threads ≡ d → (e f h : Bool)
         → width (kind_words (recordings.kind_of
-        (choose a (choose b (Valid (Guarded g)) Invalid)
-        (choose c (choose d (Valid (Own g)) Invalid)
-        (choose e (choose f (Valid Fixed) Invalid)
-        (choose h (choose f (Valid Open) Invalid) Invalid)))))) ≤ 12
+        (choose a (choose b (Some (Guarded g)) None)
+        (choose c (choose d (Some (Own g)) None)
+        (choose e (choose f (Some Fixed) None)
+        (choose h (choose f (Some Open) None) None)))))) ≤ 12
     cases true true l c d m e f h = omega (arith, decimal_length 1 g (omega (arith, ltb-true g locks l)))
     cases true false l c d m e f h = omega arith
     cases false b l true true m e f h = omega (arith, decimal_length 1 g (omega (arith, ltb-true g threads m)))

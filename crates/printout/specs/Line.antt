@@ -1,7 +1,6 @@
 -- Every line of the printout, in order (the standard, "Line and bench").
-use Rattle.std.specs.Prelude.{ℕ, suc, ◌+◌, ◌-◌, length, get_or, take, drop, eqb}
+use Rattle.std.specs.Prelude.{ℕ, suc, ◌+◌, ◌-◌, List, [], ◌∷◌, ◌++◌, length, get_or, take, drop, flat_map, eqb}
 use Prim.Native.String.{String}
-use mathlib.Core.List.{List, [], ◌∷◌, ◌++◌, flat_map}
 use Rattle.program.specs.Choice.{choose}
 use Rattle.program.specs.Field.{byte_at}
 use Rattle.program.specs.Layout.{Program, CodeSection}

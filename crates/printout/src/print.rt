@@ -1,25 +1,21 @@
 // Line i of the printout of a sound file (the standard, "Line and bench"), found by counting: four lines for the head, one for each
 // variable, then for each thread one and its code's, then one for each thread's whole. Where a code lies, the table of sections says.
-ghost use Rattle.std.specs.Prelude.{◌≡◌, [], true, ℕ, ◌+◌, ◌*◌, ◌≤◌, ◌<◌, length, get_or};
-ghost use Rattle.program.specs.Limits.{thread_limit, variable_limit, instruction_size, instruction_limit, records_start, record_offset, report_limit, line_size};
-ghost use Rattle.program.specs.Internal.Bounds.{code_limit, program_limit, line_count};
+ghost use Rattle.std.specs.Prelude.{◌≡◌, [], ◌+◌, ◌*◌, ◌≤◌, ◌<◌, length, get_or};
+ghost use Rattle.program.specs.Limits.{thread_limit, variable_limit, instruction_size, record_offset, line_size};
+ghost use Rattle.program.specs.Internal.Bounds.{program_limit, line_count};
 ghost use Rattle.program.specs.Layout.{program_of};
-ghost use Rattle.program.specs.Instruction.{decode_at, decoded_instruction, is_valid};
+ghost use Rattle.program.specs.Instruction.{decode_at, decoded_instruction};
 ghost use Rattle.program.specs.Variable.{variable_at};
-ghost use Rattle.program.specs.Internal.Rows.{row_table};
-ghost use Rattle.program.specs.Internal.Sections.{SectionTable, bytes_before};
-ghost use Rattle.program.specs.Internal.Sound.{SoundFile};
+ghost use Rattle.program.specs.Internal.Sections.{bytes_before};
 ghost use Rattle.printout.specs.Line.{lines, instruction_line, variable_line};
 ghost use Rattle.printout.specs.Internal.Writing.{WrittenLine};
 ghost use Rattle.printout.specs.Internal.Item.{head_lines, item_lines, ItemAt};
 
-use crate::line::{
-    head_line, instruction_line, thread_line, variable_line, variables_line, whole_line,
-};
+use crate::line::{head_line, instruction_line, thread_line, variable_line, whole_line};
 use program::instruction::instruction_at;
 use program::layout::Layout;
-use program::limits::{CODE_LIMIT, INSTRUCTION_SIZE, RECORDS_START, VARIABLE_SIZE};
-use program::sections::bytes_before;
+use program::limits::{RECORDS_START, VARIABLE_SIZE};
+use program::sections::ProgramFile;
 use program::variable::{initial_at, kind_at};
 
 // What a line after those of the variables shows.
@@ -41,126 +37,124 @@ pub fn line_count(l: Layout) -> usize
     4 + l.variables + l.threads + l.instructions + l.threads
 }
 
-// One of the head's four lines.
-fn print_head(file: &[u8], variables: usize, i: usize, out: &mut [u8]) -> usize
-    requires { (records_start ≤ length file.now) × (variables ≤ variable_limit) × (i < 4) × (line_size ≤ length out.old) }
-    ensures { WrittenLine (get_or (head_lines file.now variables) i []) out.old out.new result }
-{
-    match i {
-        0 => head_line(file, 0, b"version", out),
-        1 => head_line(file, 1, b"locks", out),
-        2 => head_line(file, 2, b"threads", out),
-        _ => variables_line(file, variables, out),
+// What a printout shows: a sound file, and its report. Its methods write a line to the start of a buffer of the caller's, as those of
+// line.rt do: a slice, since the buffer may have any length from 48 on (bench's has the length of what is left of its output).
+#[derive(Clone, Copy)]
+pub struct Printout<'a> {
+    pub file: &'a ProgramFile<'a>,
+    pub report: &'a [u8],
+    pub ghost covered: { file.now.layout.instructions + file.now.layout.threads ≤ length report.now },
+}
+
+impl<'a> Printout<'a> {
+    // How many lines it has.
+    #[tactic(auto, using(program::proofs::Sound::instructions_few))]
+    pub fn line_count(&self) -> usize
+        ensures { let f = self.now.file.now in result ≡ line_count f.layout.variables f.layout.threads f.layout.instructions }
+    {
+        line_count(self.file.layout)
     }
-}
 
-// What line i after the variables' shows: a code has as many lines as report bytes, and after all code there is one for each whole.
-fn item_at(counts: &[usize; CODE_LIMIT], threads: usize, i: usize) -> Item
-    requires { (threads ≤ code_limit) × (bytes_before counts.now threads ≤ report_limit) × (i < bytes_before counts.now threads + threads) }
-    ensures { ItemAt counts.now threads i result }
-{
-    let mut t: usize = 0;
-    let mut from = 0;
-    while t < threads {
-        let count = counts[t];
-        let passed = i - from;
-        if passed == 0 {
-            return Item::Thread(t);
-        }
-        if passed <= count {
-            return Item::Code(t, passed - 1);
-        }
-        from = from + count + 1;
-        t += 1;
-    }
-    Item::Whole(i - from)
-}
-
-// Variable v's line.
-fn print_variable(file: &[u8], l: Layout, v: usize, out: &mut [u8]) -> usize
-    requires { SoundFile file.now l × (v < l.variables) × (line_size ≤ length out.old) }
-    ensures { WrittenLine (variable_line file.now v (variable_at l.locks l.threads file.now (record_offset v))) out.old out.new result }
-{
-    let at = RECORDS_START + VARIABLE_SIZE * v;
-    let kind = kind_at(file, at, l.locks, l.threads);
-    let initial = initial_at(file, at);
-    variable_line(file, at, v as u8, kind, initial, out)
-}
-
-// The report byte of code c at a place; that of its whole stands after its instructions'.
-fn report_byte(counts: &[usize; CODE_LIMIT], report: &[u8], c: usize, place: usize) -> u8
-    requires { (c ≤ code_limit) × (bytes_before counts.now c ≤ report_limit) × (bytes_before counts.now c + place < length report.now) }
-    ensures { result ≡ get_or report.now (bytes_before counts.now c + place) 0 }
-{
-    report[bytes_before(counts, c) + place]
-}
-
-// The line of the instruction at a place of the code that starts at an offset, with its report byte.
-fn print_instruction(
-    rows: &[u8],
-    file: &[u8],
-    start: usize,
-    place: usize,
-    byte: u8,
-    out: &mut [u8],
-) -> usize
-    requires { (rows.now ≡ row_table) × (place < instruction_limit) × (start + instruction_size * place + instruction_size ≤ length file.now) × (line_size ≤ length out.old) }
-    ensures { (locks variables : ℕ) → is_valid (decode_at locks variables file.now (start + instruction_size * place)) ≡ true → WrittenLine (instruction_line file.now (start + instruction_size * place) place (decoded_instruction (decode_at locks variables file.now (start + instruction_size * place))) byte) out.old out.new result }
-{
-    let at = start + INSTRUCTION_SIZE * place;
-    let i = instruction_at(rows, file, at);
-    instruction_line(file, at, place, i, byte, out)
-}
-
-// Line i after those of the variables.
-fn print_item(
-    rows: &[u8],
-    file: &[u8],
-    l: Layout,
-    starts: &[usize; CODE_LIMIT],
-    counts: &[usize; CODE_LIMIT],
-    report: &[u8],
-    i: usize,
-    out: &mut [u8],
-) -> usize
-    requires { (rows.now ≡ row_table) × SectionTable file.now l starts.now counts.now × (l.instructions + l.threads ≤ length report.now) × (i < l.threads + l.instructions + l.threads) × (line_size ≤ length out.old) }
-    ensures { WrittenLine (get_or (item_lines file.now l report.now) i []) out.old out.new result }
-{
-    let item = item_at(counts, l.threads, i);
-    match item {
-        Item::Thread(t) => thread_line(file, starts[t] - 2, t, counts[t], out),
-        Item::Code(t, place) => {
-            let byte = report_byte(counts, report, t, place);
-            print_instruction(rows, file, starts[t], place, byte, out)
-        }
-        Item::Whole(t) => {
-            let byte = report_byte(counts, report, t, counts[t]);
-            whole_line(t, byte, out)
+    // One of the head's four lines. By number, since lines are counted, and that is all that a caller knows of one.
+    #[tactic(auto, unfolding(crate::specs::Internal::Item::head_lines, crate::specs::Internal::Item::variables_line, crate::specs::Line::head_line, crate::specs::Text::ascii))]
+    fn write_head(&self, i: usize, out: &mut [u8]) -> usize
+        requires { (i < 4) × (line_size ≤ length out.old) }
+        ensures { let f = self.now.file.now in WrittenLine (get_or (head_lines f.bytes.now f.layout.variables) i []) out.old out.new result }
+    {
+        let bytes = self.file.bytes;
+        match i {
+            0 => head_line(bytes, 0, 1, b"version", usize::from(bytes[0]), out),
+            1 => head_line(bytes, 1, 1, b"locks", usize::from(bytes[1]), out),
+            2 => head_line(bytes, 2, 1, b"threads", usize::from(bytes[2]), out),
+            _ => head_line(bytes, 3, 2, b"variables", self.file.layout.variables, out),
         }
     }
-}
 
-// Line i of the printout, for a buffer of 48 bytes or more; answers the line's length.
-pub fn write_line(
-    rows: &[u8],
-    file: &[u8],
-    l: Layout,
-    starts: &[usize; CODE_LIMIT],
-    counts: &[usize; CODE_LIMIT],
-    report: &[u8],
-    i: usize,
-    out: &mut [u8],
-) -> usize
-    requires { (rows.now ≡ row_table) × SectionTable file.now l starts.now counts.now × (l.instructions + l.threads ≤ length report.now) × (i < line_count l.variables l.threads l.instructions) × (line_size ≤ length out.old) }
-    ensures { WrittenLine (get_or (lines file.now (program_of file.now l) report.now) i []) out.old out.new result }
-{
-    if i < 4 {
-        return print_head(file, l.variables, i, out);
+    // Variable v's line.
+    #[tactic(auto, unfolding(crate::specs::Line::variable_line, program::specs::Variable::variable_at))]
+    fn write_variable(&self, v: usize, out: &mut [u8]) -> usize
+        requires { (v < self.now.file.now.layout.variables) × (line_size ≤ length out.old) }
+        ensures { let f = self.now.file.now in WrittenLine (variable_line f.bytes.now v (variable_at f.layout.locks f.layout.threads f.bytes.now (record_offset v))) out.old out.new result }
+    {
+        let bytes = self.file.bytes;
+        let l = self.file.layout;
+        let at = RECORDS_START + VARIABLE_SIZE * v;
+        let kind = kind_at(bytes, at, l.locks, l.threads);
+        variable_line(bytes, at, v as u8, kind, initial_at(bytes, at), out)
     }
-    let past = i - 4;
-    if past < l.variables {
-        return print_variable(file, l, past, out);
+
+    // What line i after the variables' shows: a code has as many lines as report bytes, and after all code there is one for each whole.
+    #[tactic(auto, using(program::proofs::SectionTable::report_inside), unfolding(program::specs::Internal::Sections::bytes_before))]
+    fn item_at(&self, i: usize) -> Item
+        requires { let f = self.now.file.now in i < bytes_before f.counts f.layout.threads + f.layout.threads }
+        ensures { let f = self.now.file.now in ItemAt f.counts f.layout.threads i result }
+    {
+        let mut from = 0;
+        for t in 0..self.file.layout.threads {
+            let count = self.file.count(t);
+            let passed = i - from;
+            if passed == 0 {
+                return Item::Thread(t);
+            }
+            if passed <= count {
+                return Item::Code(t, passed - 1);
+            }
+            from = from + count + 1;
+        }
+        Item::Whole(i - from)
     }
-    let rest = past - l.variables;
-    print_item(rows, file, l, starts, counts, report, rest, out)
+
+    // The report byte of thread t's whole; it stands after its instructions'.
+    #[tactic(auto, using(program::proofs::SectionTable::report_inside))]
+    fn whole_byte(&self, t: usize) -> u8
+        requires { t < self.now.file.now.layout.threads }
+        ensures { let f = self.now.file.now in result ≡ get_or self.now.report.now (bytes_before f.counts t + get_or f.counts t 0) 0 }
+    {
+        self.report[self.file.bytes_before(t) + self.file.count(t)]
+    }
+
+    // The line of thread t's instruction at a place, with its report byte.
+    fn write_instruction(&self, t: usize, place: usize, byte: u8, out: &mut [u8]) -> usize
+        requires { let f = self.now.file.now in (t < f.layout.threads) × (place < get_or f.counts t 0) × (line_size ≤ length out.old) }
+        ensures { let f = self.now.file.now in let at = get_or f.starts t 0 + instruction_size * place in
+            WrittenLine (instruction_line f.bytes.now at place (decoded_instruction (decode_at f.layout.locks f.layout.variables f.bytes.now at)) byte) out.old out.new result }
+    {
+        let bytes = self.file.bytes;
+        let at = self.file.offset_of(t, place);
+        instruction_line(bytes, at, place, instruction_at(bytes, at), byte, out)
+    }
+
+    // Line i after those of the variables.
+    #[tactic(auto, using(program::proofs::SectionTable::report_inside, crate::proofs::Parts::item_thread, crate::proofs::Parts::item_code, crate::proofs::Parts::item_whole), unfolding(crate::specs::Internal::Item::whole_line))]
+    fn write_item(&self, i: usize, out: &mut [u8]) -> usize
+        requires { let f = self.now.file.now in (i < bytes_before f.counts f.layout.threads + f.layout.threads) × (line_size ≤ length out.old) }
+        ensures { let f = self.now.file.now in WrittenLine (get_or (item_lines f.bytes.now f.layout self.now.report.now) i []) out.old out.new result }
+    {
+        match self.item_at(i) {
+            Item::Thread(t) => {
+                let file = self.file;
+                thread_line(file.bytes, file.head_of(t), t, file.count(t), out)
+            }
+            // One line for each thread up to t and one for each report byte up to the instruction's: its byte is that before i.
+            Item::Code(t, place) => self.write_instruction(t, place, self.report[i - 1], out),
+            Item::Whole(t) => whole_line(t, self.whole_byte(t), out),
+        }
+    }
+
+    // Line i, for a buffer of 48 bytes or more; answers the line's length.
+    #[tactic(auto, using(crate::proofs::Parts::line_head, crate::proofs::Parts::line_variable, crate::proofs::Parts::line_item))]
+    pub fn write_line(&self, i: usize, out: &mut [u8]) -> usize
+        requires { let f = self.now.file.now in (i < line_count f.layout.variables f.layout.threads f.layout.instructions) × (line_size ≤ length out.old) }
+        ensures { let f = self.now.file.now in WrittenLine (get_or (lines f.bytes.now (program_of f.bytes.now f.layout) self.now.report.now) i []) out.old out.new result }
+    {
+        if i < 4 {
+            return self.write_head(i, out);
+        }
+        let past = i - 4;
+        let variables = self.file.layout.variables;
+        if past < variables {
+            return self.write_variable(past, out);
+        }
+        self.write_item(past - variables, out)
+    }
 }

@@ -1,133 +1,132 @@
-// Words written into a lent text buffer. Each function takes the position to write at and answers the position after what it wrote;
-// `end` is the byte that ends the word, a blank or the line's newline.
-ghost use Rattle.std.specs.Prelude.{◌≡◌, ◌+◌, ◌*◌, ◌≤◌, ◌<◌, length, take, drop};
-ghost use Rattle.printout.specs.Text.{hex_digit, hex, decimal};
-ghost use Rattle.printout.specs.Line.{raw, letter};
-ghost use Rattle.printout.specs.Internal.Writing.{Laid, LaidWord, lettered};
+// The line under way, and the words that are written to it, each with a blank after it; the last word's blank becomes the newline.
+ghost use Rattle.std.specs.Prelude.{◌≡◌, [], ◌∷◌, ◌++◌, ◌+◌, ◌*◌, ◌≤◌, ◌<◌, length, List, ℕ};
+ghost use Rattle.program.specs.Limits.{line_size};
+ghost use Rattle.printout.specs.Text.{hex_digit, decimal, line_of};
+ghost use Rattle.printout.specs.Line.{letter, raw};
+ghost use Rattle.printout.specs.Internal.Writing.{blanked, lettered, WrittenLine};
 
-// A fixed text.
-pub fn copy_at(out: &mut [u8], at: usize, word: &[u8], end: u8) -> usize
-    requires { at + length word.now + 1 ≤ length out.old }
-    ensures laid_word { LaidWord word.now end at out.old out.new result }
-    ensures value { result ≡ at + length word.now + 1 }
-{
-    let mut i = 0;
-    while i < word.len() {
-        out[at + i] = word[i];
-        i += 1;
-    }
-    out[at + i] = end;
-    at + i + 1
+use arrayvec::ArrayVec;
+use program::limits::LINE_SIZE;
+
+// Its bytes so far. Each method that writes a word ensures that word behind the ones before, and its room.
+// Hexadecimal, decimal and letters are pushed by hand: a line by the library's `write!` was tried and took four times as long, with which
+// bench would miss its bar of speed.
+#[derive(Drop)]
+pub struct LineText {
+    bytes: ArrayVec<u8, LINE_SIZE>,
 }
 
 // A capital hexadecimal digit.
+#[tactic(auto, unfolding(crate::specs::Text::hex_digit))]
 fn hex_digit(d: u8) -> u8
     requires { d < 16 }
     ensures { result ≡ hex_digit d }
 {
-    if d < 10 { 48 + d } else { 55 + d }
+    if d < 10 { b'0' + d } else { b'A' - 10 + d }
 }
 
-// A byte, as two hexadecimal digits.
-fn hex_at(out: &mut [u8], at: usize, b: u8) -> usize
-    requires { at + 2 ≤ length out.old }
-    ensures { Laid (hex b) at out.old out.new result }
-{
-    out[at] = hex_digit(b / 16);
-    out[at + 1] = hex_digit(b % 16);
-    at + 2
-}
-
-// `n` raw bytes of the file from an offset on.
-pub fn raw_at(out: &mut [u8], at: usize, file: &[u8], from: usize, n: usize, end: u8) -> usize
-    requires { (from + n ≤ length file.now) × (at + 2 * n + 1 ≤ length out.old) }
-    ensures laid_word { LaidWord (raw file.now from n) end at out.old out.new result }
-    ensures value { result ≡ at + 2 * n + 1 }
-{
-    let mut next = at;
-    let mut i = 0;
-    while i < n {
-        next = hex_at(out, next, file[from + i]);
-        i += 1;
+impl LineText {
+    pub fn new() -> Self
+        ensures { result.bytes.items ≡ [] }
+    {
+        LineText {
+            bytes: ArrayVec::new(),
+        }
     }
-    out[next] = end;
-    next + 1
-}
 
-// The decimal digits of a number.
-fn digits_at(out: &mut [u8], at: usize, n: usize) -> usize
-    requires { at + length (decimal n) ≤ length out.old }
-    ensures { Laid (decimal n) at out.old out.new result }
-{
-    if n < 10 {
-        out[at] = 48 + n as u8;
-        return at + 1;
+    // A fixed text.
+    #[tactic(auto, unfolding(crate::specs::Internal::Writing::blanked, crate::specs::Internal::Writing::ended))]
+    #[inline]
+    pub fn name(&mut self, word: &[u8])
+        requires { length self.old.bytes.items + length word.now + 1 ≤ line_size }
+        ensures word { self.new.bytes.items ≡ self.old.bytes.items ++ blanked (word.now ∷ []) }
+        ensures room { length self.new.bytes.items ≡ length self.old.bytes.items + length word.now + 1 }
+    {
+        for byte in word {
+            self.bytes.push(*byte);
+        }
+        self.bytes.push(b' ');
     }
-    let next = digits_at(out, at, n / 10);
-    out[next] = 48 + (n % 10) as u8;
-    next + 1
-}
 
-// A number.
-pub fn number_at(out: &mut [u8], at: usize, n: usize, end: u8) -> usize
-    requires { at + length (decimal n) + 1 ≤ length out.old }
-    ensures laid_word { LaidWord (decimal n) end at out.old out.new result }
-    ensures value { result ≡ at + length (decimal n) + 1 }
-{
-    let next = digits_at(out, at, n);
-    out[next] = end;
-    next + 1
-}
-
-// A letter and a number of one byte: a register, a variable, a lock or a thread.
-pub fn lettered_at(out: &mut [u8], at: usize, letter: u8, n: u8, end: u8) -> usize
-    requires { at + 5 ≤ length out.old }
-    ensures laid_word { LaidWord (lettered letter n) end at out.old out.new result }
-    ensures upper_bound { result ≤ at + 5 }
-{
-    out[at] = letter;
-    number_at(out, at + 1, n as usize, end)
-}
-
-// A number of at most five digits.
-pub fn short_at(out: &mut [u8], at: usize, n: usize, end: u8) -> usize
-    requires { (n < 100000) × (at + 6 ≤ length out.old) }
-    ensures laid_word { LaidWord (decimal n) end at out.old out.new result }
-    ensures upper_bound { result ≤ at + 6 }
-{
-    number_at(out, at, n, end)
-}
-
-// A byte's value.
-pub fn byte_at(out: &mut [u8], at: usize, n: u8, end: u8) -> usize
-    requires { at + 6 ≤ length out.old }
-    ensures laid_word { LaidWord (decimal n) end at out.old out.new result }
-    ensures upper_bound { result ≤ at + 6 }
-{
-    short_at(out, at, n as usize, end)
-}
-
-// One byte of a fixed text.
-fn pick_at(out: &mut [u8], at: usize, text: &[u8], i: usize, end: u8) -> usize
-    requires { (i < length text.now) × (at + 2 ≤ length out.old) }
-    ensures laid_word { LaidWord (take 1 (drop i text.now)) end at out.old out.new result }
-    ensures upper_bound { result ≤ at + 2 }
-{
-    out[at] = text[i];
-    let next = at + 1;
-    out[next] = end;
-    next + 1
-}
-
-// The letter of a report byte: "atomicity, `-` at closers". A byte above 5 has none.
-pub fn letter_at(out: &mut [u8], at: usize, byte: u8, end: u8) -> usize
-    requires { at + 2 ≤ length out.old }
-    ensures laid_word { LaidWord (letter byte) end at out.old out.new result }
-    ensures upper_bound { result ≤ at + 2 }
-{
-    if byte < 6 {
-        return pick_at(out, at, b"-BLRAT", byte as usize, end);
+    // `n` raw bytes of the file from an offset on, as two hexadecimal digits each. The offset and not a slice, as in the definition, which
+    // callers' clauses name.
+    #[tactic(auto, unfolding(crate::specs::Internal::Writing::blanked, crate::specs::Internal::Writing::ended, crate::specs::Line::raw, crate::specs::Text::hex))]
+    #[inline]
+    pub fn raw(&mut self, file: &[u8], from: usize, n: usize)
+        requires { (from + n ≤ length file.now) × (length self.old.bytes.items + 2 * n + 1 ≤ line_size) }
+        ensures word { self.new.bytes.items ≡ self.old.bytes.items ++ blanked (raw file.now from n ∷ []) }
+        ensures room { length self.new.bytes.items ≡ length self.old.bytes.items + 2 * n + 1 }
+    {
+        for byte in &file[from..from + n] {
+            self.bytes.push(hex_digit(*byte / 16));
+            self.bytes.push(hex_digit(*byte % 16));
+        }
+        self.bytes.push(b' ');
     }
-    out[at] = end;
-    at + 1
+
+    // The decimal digits of a number, the first ones before the last: a recursion, since the definition is one, and a loop has the last
+    // digit first.
+    #[tactic(auto, using(crate::proofs::Digits::decimal_small, crate::proofs::Digits::decimal_large, crate::proofs::Digits::decimal_large_length))]
+    fn digits(&mut self, n: usize)
+        requires { length self.old.bytes.items + length (decimal n) ≤ line_size }
+        ensures { self.new.bytes.items ≡ self.old.bytes.items ++ decimal n }
+    {
+        if n < 10 {
+            return self.bytes.push(b'0' + n as u8);
+        }
+        self.digits(n / 10);
+        self.bytes.push(b'0' + (n % 10) as u8);
+    }
+
+    // A number.
+    #[tactic(auto, unfolding(crate::specs::Internal::Writing::blanked, crate::specs::Internal::Writing::ended))]
+    #[inline]
+    pub fn number(&mut self, n: usize)
+        requires { length self.old.bytes.items + length (decimal n) + 1 ≤ line_size }
+        ensures word { self.new.bytes.items ≡ self.old.bytes.items ++ blanked (decimal n ∷ []) }
+        ensures room { length self.new.bytes.items ≡ length self.old.bytes.items + length (decimal n) + 1 }
+    {
+        self.digits(n);
+        self.bytes.push(b' ');
+    }
+
+    // A letter and a number of one byte: a register, a variable, a lock or a thread.
+    #[tactic(auto, using(crate::proofs::Digits::byte_digits), unfolding(crate::specs::Internal::Writing::blanked, crate::specs::Internal::Writing::ended, crate::specs::Internal::Writing::lettered))]
+    #[inline]
+    pub fn lettered(&mut self, letter: u8, n: u8)
+        requires { length self.old.bytes.items + 5 ≤ line_size }
+        ensures word { self.new.bytes.items ≡ self.old.bytes.items ++ blanked (lettered letter n ∷ []) }
+        ensures room { length self.new.bytes.items ≤ length self.old.bytes.items + 5 }
+    {
+        self.bytes.push(letter);
+        self.number(usize::from(n));
+    }
+
+    // The letter of a report byte: "atomicity, `-` at closers". A byte above 5 has none. A number, since a report is an array of bytes
+    // that C's callers read, and a closer's byte is no atomicity's.
+    #[tactic(auto, unfolding(crate::specs::Internal::Writing::blanked, crate::specs::Internal::Writing::ended, crate::specs::Line::letter, crate::specs::Text::ascii))]
+    #[inline]
+    pub fn letter(&mut self, byte: u8)
+        requires { length self.old.bytes.items + 2 ≤ line_size }
+        ensures word { self.new.bytes.items ≡ self.old.bytes.items ++ blanked (letter byte ∷ []) }
+        ensures room { length self.new.bytes.items ≤ length self.old.bytes.items + 2 }
+    {
+        if let Some(letter) = b"-BLRAT".get(byte as usize) {
+            self.bytes.push(*letter);
+        }
+        self.bytes.push(b' ');
+    }
+
+    // Writes the line to the start of a lent buffer, the newline in place of its last blank; answers its length.
+    #[inline]
+    pub fn write(&mut self, out: &mut [u8]) -> usize
+        requires { (length self.old.bytes.items ≤ line_size) × (line_size ≤ length out.old) }
+        ensures { (word : List ℕ) (words : List (List ℕ)) → self.old.bytes.items ≡ blanked (word ∷ words) → WrittenLine (line_of (word ∷ words)) out.old out.new result }
+    {
+        self.bytes.pop();
+        self.bytes.push(b'\n');
+        let n = self.bytes.len();
+        out[..n].copy_from_slice(self.bytes.as_slice());
+        n
+    }
 }

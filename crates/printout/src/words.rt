@@ -1,115 +1,109 @@
-// The words of a kind and of an instruction, each with a blank after it. Instructions whose fields have the same shape share a function.
-ghost use Rattle.std.specs.Prelude.{[], ◌∷◌, ◌+◌, ◌≤◌, length};
-ghost use Rattle.printout.specs.Text.{ascii, decimal};
-ghost use Rattle.printout.specs.Line.{kind_words, instruction_words, stated_words};
-ghost use Rattle.printout.specs.Internal.Writing.{LaidWords, lettered};
+// The words of a kind and of an instruction, each with a blank after it: a name, then its fields.
+ghost use Rattle.std.specs.Prelude.{◌≡◌, ◌∷◌, ◌++◌, ◌+◌, ◌≤◌, length, flat_map};
+ghost use Rattle.std.specs.List.{sum_by};
+ghost use Rattle.program.specs.Limits.{line_size};
+ghost use Rattle.printout.specs.Line.{kind_words, instruction_words};
+ghost use Rattle.printout.specs.Internal.Field.{field_words, field_room};
+ghost use Rattle.printout.specs.Internal.Writing.{blanked};
 
-use crate::text::{copy_at, letter_at, lettered_at, short_at};
+use crate::text::LineText;
 use program::instruction::Instruction;
 use program::variable::Kind;
 
-// A name and a number.
-fn name_number(out: &mut [u8], at: usize, name: &[u8], n: u16) -> usize
-    requires { at + length name.now + 7 ≤ length out.old }
-    ensures laid_words { LaidWords (name.now ∷ decimal n ∷ []) at out.old out.new result }
-    ensures upper_bound { result ≤ at + length name.now + 7 }
-{
-    let next = copy_at(out, at, name, b' ');
-    short_at(out, next, n as usize, b' ')
+// A field behind a name: "r, v, k for register, variable, lock; numbers bare". An enum and no Display: why not `write!`, text.rt says.
+#[derive(Clone, Copy)]
+pub enum Field {
+    Register(u8),
+    Variable(u8),
+    Lock(u8),
+    Thread(u8),
+    Number(u16),
+    // The atomicity that an ATOMIC states; "nothing for 0".
+    Stated(u8),
 }
 
-// A name and a lettered field: a lock or a thread.
-fn name_lettered(out: &mut [u8], at: usize, name: &[u8], letter: u8, k: u8) -> usize
-    requires { at + length name.now + 6 ≤ length out.old }
-    ensures laid_words { LaidWords (name.now ∷ lettered letter k ∷ []) at out.old out.new result }
-    ensures upper_bound { result ≤ at + length name.now + 6 }
-{
-    let next = copy_at(out, at, name, b' ');
-    lettered_at(out, next, letter, k, b' ')
-}
-
-// A name, a register and a number.
-fn name_register_number(out: &mut [u8], at: usize, name: &[u8], a: u8, n: u16) -> usize
-    requires { at + length name.now + 12 ≤ length out.old }
-    ensures laid_words { LaidWords (name.now ∷ lettered 114 a ∷ decimal n ∷ []) at out.old out.new result }
-    ensures upper_bound { result ≤ at + length name.now + 12 }
-{
-    let next = copy_at(out, at, name, b' ');
-    let next = lettered_at(out, next, b'r', a, b' ');
-    short_at(out, next, n as usize, b' ')
-}
-
-// A name, a register and a lettered field: a register or a variable.
-fn name_register_lettered(out: &mut [u8], at: usize, name: &[u8], a: u8, letter: u8, b: u8) -> usize
-    requires { at + length name.now + 11 ≤ length out.old }
-    ensures laid_words { LaidWords (name.now ∷ lettered 114 a ∷ lettered letter b ∷ []) at out.old out.new result }
-    ensures upper_bound { result ≤ at + length name.now + 11 }
-{
-    let next = copy_at(out, at, name, b' ');
-    let next = lettered_at(out, next, b'r', a, b' ');
-    lettered_at(out, next, letter, b, b' ')
-}
-
-// A name and three registers.
-fn name_registers(out: &mut [u8], at: usize, name: &[u8], a: u8, b: u8, c: u8) -> usize
-    requires { at + length name.now + 16 ≤ length out.old }
-    ensures laid_words { LaidWords (name.now ∷ lettered 114 a ∷ lettered 114 b ∷ lettered 114 c ∷ []) at out.old out.new result }
-    ensures upper_bound { result ≤ at + length name.now + 16 }
-{
-    let next = copy_at(out, at, name, b' ');
-    let next = lettered_at(out, next, b'r', a, b' ');
-    let next = lettered_at(out, next, b'r', b, b' ');
-    lettered_at(out, next, b'r', c, b' ')
-}
-
-// An ATOMIC with its distance and, if it states an atomicity, that one's letter.
-fn atomic_words(out: &mut [u8], at: usize, stated: u8, n: u16) -> usize
-    requires { at + 15 ≤ length out.old }
-    ensures laid_words { LaidWords (ascii "ATOMIC" ∷ decimal n ∷ stated_words stated) at out.old out.new result }
-    ensures upper_bound { result ≤ at + 15 }
-{
-    let next = name_number(out, at, b"ATOMIC", n);
-    if stated == 0 {
-        return next;
+impl LineText {
+    // A field. Compiled into each caller, as `words` is: with calls, and a `digits` with no early end, a line took 67 ns against 46.
+    #[tactic(auto, using(crate::proofs::Digits::short_digits), unfolding(crate::specs::Internal::Field::field_words, crate::specs::Internal::Writing::blanked, crate::specs::Internal::Writing::lettered, crate::specs::Line::numbered, crate::specs::Line::stated_words, crate::specs::Text::ascii))]
+    #[inline(always)]
+    fn field(&mut self, field: Field)
+        requires { length self.old.bytes.items + field_room field ≤ line_size }
+        ensures words { self.new.bytes.items ≡ self.old.bytes.items ++ blanked (field_words field) }
+        ensures room { length self.new.bytes.items ≤ length self.old.bytes.items + field_room field }
+    {
+        match field {
+            Field::Register(a) => self.lettered(b'r', a),
+            Field::Variable(v) => self.lettered(b'v', v),
+            Field::Lock(k) => self.lettered(b'k', k),
+            Field::Thread(t) => self.lettered(b't', t),
+            Field::Number(n) => self.number(usize::from(n)),
+            Field::Stated(0) => {}
+            Field::Stated(a) => self.letter(a),
+        }
     }
-    letter_at(out, next, stated, b' ')
-}
 
-// The words of a variable's kind.
-pub fn kind_words(out: &mut [u8], at: usize, kind: Kind) -> usize
-    requires { at + 13 ≤ length out.old }
-    ensures laid_words { LaidWords (kind_words kind) at out.old out.new result }
-    ensures upper_bound { result ≤ at + 13 }
-{
-    match kind {
-        Kind::Guarded(g) => name_lettered(out, at, b"guarded", b'k', g),
-        Kind::Own(g) => name_lettered(out, at, b"own", b't', g),
-        Kind::Fixed => copy_at(out, at, b"fixed", b' '),
-        Kind::Open => copy_at(out, at, b"open", b' '),
+    // A name and its fields.
+    #[tactic(auto, unfolding(crate::specs::Internal::Writing::blanked))]
+    #[inline(always)]
+    pub fn words(&mut self, name: &[u8], fields: &[Field])
+        requires { length self.old.bytes.items + length name.now + 1 + sum_by field_room fields.now ≤ line_size }
+        ensures words { self.new.bytes.items ≡ self.old.bytes.items ++ blanked (name.now ∷ flat_map field_words fields.now) }
+        ensures room { length self.new.bytes.items ≤ length self.old.bytes.items + length name.now + 1 + sum_by field_room fields.now }
+    {
+        self.name(name);
+        for field in fields {
+            self.field(*field);
+        }
     }
-}
 
-// The words of an instruction: "name, its fields in byte order".
-pub fn instruction_words(out: &mut [u8], at: usize, i: Instruction) -> usize
-    requires { at + 20 ≤ length out.old }
-    ensures laid_words { LaidWords (instruction_words i) at out.old out.new result }
-    ensures upper_bound { result ≤ at + 20 }
-{
-    match i {
-        Instruction::Set(a, n) => name_register_number(out, at, b"SET", a, n),
-        Instruction::Copy(a, b) => name_register_lettered(out, at, b"COPY", a, b'r', b),
-        Instruction::Add(a, b, c) => name_registers(out, at, b"ADD", a, b, c),
-        Instruction::Sub(a, b, c) => name_registers(out, at, b"SUB", a, b, c),
-        Instruction::Less(a, b, c) => name_registers(out, at, b"LESS", a, b, c),
-        Instruction::Read(a, v) => name_register_lettered(out, at, b"READ", a, b'v', v),
-        Instruction::Write(a, v) => name_register_lettered(out, at, b"WRITE", a, b'v', v),
-        Instruction::Take(k) => name_lettered(out, at, b"TAKE", b'k', k),
-        Instruction::Give(k) => name_lettered(out, at, b"GIVE", b'k', k),
-        Instruction::If(a, n) => name_register_number(out, at, b"IF", a, n),
-        Instruction::Else(n) => name_number(out, at, b"ELSE", n),
-        Instruction::While(a, n) => name_register_number(out, at, b"WHILE", a, n),
-        Instruction::Again(n) => name_number(out, at, b"AGAIN", n),
-        Instruction::Atomic(stated, n) => atomic_words(out, at, stated, n),
-        Instruction::End => copy_at(out, at, b"END", b' '),
+    // The words of a variable's kind.
+    #[tactic(auto, unfolding(crate::specs::Internal::Field::field_words, crate::specs::Line::kind_words, crate::specs::Text::ascii))]
+    pub fn kind(&mut self, kind: Kind)
+        requires { length self.old.bytes.items + 13 ≤ line_size }
+        ensures words { self.new.bytes.items ≡ self.old.bytes.items ++ blanked (kind_words kind) }
+        ensures room { length self.new.bytes.items ≤ length self.old.bytes.items + 13 }
+    {
+        match kind {
+            Kind::Guarded(g) => self.words(b"guarded", &[Field::Lock(g)]),
+            Kind::Own(g) => self.words(b"own", &[Field::Thread(g)]),
+            Kind::Fixed => self.words(b"fixed", &[]),
+            Kind::Open => self.words(b"open", &[]),
+        }
+    }
+
+    // The words of an instruction: "name, its fields in byte order".
+    #[tactic(auto, unfolding(crate::specs::Internal::Field::field_words, crate::specs::Line::instruction_words, crate::specs::Text::ascii))]
+    pub fn instruction(&mut self, i: Instruction)
+        requires { length self.old.bytes.items + 20 ≤ line_size }
+        ensures words { self.new.bytes.items ≡ self.old.bytes.items ++ blanked (instruction_words i) }
+        ensures room { length self.new.bytes.items ≤ length self.old.bytes.items + 20 }
+    {
+        use Field::{Lock, Number, Register, Stated, Variable};
+        match i {
+            Instruction::Set(a, n) => self.words(b"SET", &[Register(a), Number(n)]),
+            Instruction::Copy(a, b) => self.words(b"COPY", &[Register(a), Register(b)]),
+            Instruction::Add(a, b, c) => self.words(
+                b"ADD",
+                &[Register(a), Register(b), Register(c)],
+            ),
+            Instruction::Sub(a, b, c) => self.words(
+                b"SUB",
+                &[Register(a), Register(b), Register(c)],
+            ),
+            Instruction::Less(a, b, c) => self.words(
+                b"LESS",
+                &[Register(a), Register(b), Register(c)],
+            ),
+            Instruction::Read(a, v) => self.words(b"READ", &[Register(a), Variable(v)]),
+            Instruction::Write(a, v) => self.words(b"WRITE", &[Register(a), Variable(v)]),
+            Instruction::Take(k) => self.words(b"TAKE", &[Lock(k)]),
+            Instruction::Give(k) => self.words(b"GIVE", &[Lock(k)]),
+            Instruction::If(a, n) => self.words(b"IF", &[Register(a), Number(n)]),
+            Instruction::Else(n) => self.words(b"ELSE", &[Number(n)]),
+            Instruction::While(a, n) => self.words(b"WHILE", &[Register(a), Number(n)]),
+            Instruction::Again(n) => self.words(b"AGAIN", &[Number(n)]),
+            Instruction::Atomic(stated, n) => self.words(b"ATOMIC", &[Number(n), Stated(stated)]),
+            Instruction::End => self.words(b"END", &[]),
+        }
     }
 }

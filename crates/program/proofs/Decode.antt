@@ -3,12 +3,17 @@
 --     position_none        one without a row is invalid
 --     row_said             the instruction of valid bytes is its row's, whose fields are right
 --     row_below            there are no more row numbers than rows
---     limits_length        how long the lists of limits are
 --     fits_valid           bytes are valid exactly if they lie below the limits of their row
---     all_right, one_register, two_registers, three_registers
---                          registers whose fields are right
---     row_plain            an instruction of a row without its bit is no opener or closer
---     row_form_lem         one of a row with its bit has the row's form
+--     all_right            three tests that hold together hold
+--     registers_in, right_registers
+--                          the registers of a row's fields, which there are if the fields are right
+--     by_row               fields b and c say the distance alone
+--     plain_is             a form that the test finds plain is
+--     row_instruction      valid bytes are the instruction of their op code's row
+--     row_registers        ... which names registers that there are
+--     row_form_lem         the form of an opener or a closer is its row's
+--     row_plain            any other's is plain
+--     nests, nesting_rows  openers and closers are rows 10 to 15
 --     instruction_access   locks and variables below their counts, at any offset, valid or not
 --     access_below         ... of four bytes
 --     each_row_lem         what a computed test says of all rows
@@ -16,39 +21,38 @@
 --     access_wider         what lies below two counts lies below larger ones
 --     AllRows, decode_holds
 --                          what holds of each row's instruction holds of what is decoded
---     rows_at              the table of rows, by op code
-use Prim.Native.Nat.{ℕ, zero, suc, ◌+◌, ◌-◌, ◌*◌, ◌/◌, ◌%◌, ◌^◌, ◌<◌, ◌≤◌}
+--     rows_from_lem, rows_at
+--                          the row of each byte, by op code
+--     rows_numbered        ... for a table of rows of the enum
+use Prim.Native.Nat.{ℕ, zero, suc, ◌+◌, ◌-◌, ◌*◌, ◌<◌, ◌≤◌}
 use mathlib.Core.Path.{◌≡◌, refl, sym, ap, ◌∙◌, subst}
 use mathlib.Core.Logic.{◌≢◌}
-use mathlib.Core.Bool.{Bool, true, false, ◌&&◌, ◌||◌, and-eq-true_iff}
-use mathlib.Core.List.{List, [], ◌∷◌, ◌++◌, map}
-use native.Mathlib.Nat.{lt_of_lt_of_le}
+use mathlib.Core.Bool.{Bool, true, false, ◌&&◌, ◌||◌, not, and-eq-true_iff}
+use mathlib.Core.List.{List, [], ◌∷◌, map}
+use native.Mathlib.Nat.{lt_of_lt_of_le, zero-add}
 use native.Mathlib.Decide.{ℕ_discrete}
 use native.Mathlib.Omega.{arith}
 use lib.Dec.{ltb, leb, eqb}
-use lib.ListN.{length, get_or, replicate, length-map, get_or-append, get_or-map}
-use lib.Seq.{get_or-take, get_or-append-add}
-use borrow.Author.Tests.{ltb-true, leb-true, eqb-true, lt-ltb, le-ltb, ne_eqb}
+use lib.ListN.{length, get_or, get_or-map}
+use borrow.Author.Tests.{ltb-true, leb-true, lt-ltb, le-ltb, ne_eqb}
+use Rattle.std.proofs.lemmas.Bool.{not-false, not-true}
 use Rattle.program.specs.View.{Access, none, reads, writes, takes, gives, access_of, form_of, Form}
 use Rattle.program.specs.Choice.{choose}
 use Rattle.program.specs.Field.{byte_at}
-use Rattle.program.specs.Instruction.{Decoded, Valid, Invalid, FieldKind, register, variable, lock, zero as zero_field, part, statement, is_right, is_right_row, TableRow, row, table, look_up, decode, decode_at, decoded_instruction, is_valid}
+use Rattle.program.specs.Instruction.{Decoded, Valid, Invalid, FieldKind, register, variable, lock, zero as zero_field, part, statement, is_right, is_right_row, TableRow, table, look_up, decode, decode_at, decoded_instruction, is_valid}
 use Rattle.program.specs.Limits.{register_count}
-use Rattle.program.specs.Internal.Rows.{position, row_of, rows_from, row_table, limit_of, kinds, column, limits_of, AreLimits, fits, nesting_rows}
-use Rattle.program.specs.Internal.Change.{row_form}
-use Rattle.program.specs.Internal.Seen.{AreRegisters}
+use Rattle.program.specs.Internal.Rows.{position, row_of, rows_from, row_table, number_of, no_row, row_in, instruction_in, is_plain, at_distance, row_form, is_nesting, limit_of, row_limits, limits_of, fits}
+use Rattle.program.specs.Internal.Seen.{AreRegisters, RegistersGood, registers_of, seen}
 use Rattle.program.specs.Internal.Sound.{AccessBelow}
 use Rattle.program.specs.View as form
 use Rattle.program.specs.declared.instruction.Instruction.{Instruction}
 use Rattle.program.specs.declared.instruction.Instruction.TheVariants.{End}
+use Rattle.program.specs.declared.instruction.Row.{Row}
+use Rattle.program.specs.declared.instruction.Row.TheVariants as row
 use Rattle.program.proofs.Differ.{differ}
 use Rattle.program.proofs.Lists.{get_d_any}
 
 -- ---- rows by number
-
--- what is read where there is no row
-abbrev pub no_row : TableRow
-no_row = row 0 zero_field zero_field zero_field End
 
 -- a row's number is 0, or from the first row's on; there are no more than rows
 position_from : (op n : ℕ) (rows : List TableRow) → position op n rows ≢ 0 → n ≤ position op n rows
@@ -142,72 +146,18 @@ right_below locks variables (suc x) h zero_field = le-ltb (suc x) 1 (omega arith
 right_below locks variables x h part = lt-ltb x 256 h
 right_below locks variables x h statement = refl
 
--- the limit of row m, counted from 0, in a column
-column_at : (locks variables m : ℕ) (ks : List FieldKind) → m < length ks → m < 31
-    → get_or (column locks variables ks) (suc m) 0 ≡ limit_of locks variables (get_or ks m zero_field)
-column_at locks variables m ks h small =
-    let limits = map (limit_of locks variables) ks in
-    let inside : m < length limits = rw (length-map ks (limit_of locks variables)) h in
-    get_or-take 32 (0 ∷ limits ++ replicate 32 0) (suc m) 0 (omega arith)
-    ∙ get_or-append limits (replicate 32 0) 0 m inside
-    ∙ get_d_any limits m 0 1 inside
-    ∙ get_or-map (limit_of locks variables) ks m zero_field
-
--- three columns
-pub limits_length : (limits : List ℕ) → AreLimits limits → length limits ≡ 96
-unfolding limits_of
-limits_length limits e = rw e.3
-
--- the kind of a field of row m
-kind_at : (a b c m : ℕ) (field : TableRow → FieldKind) → field no_row ≡ zero_field → map field (table a b c) ≡ kinds field
-    → get_or (kinds field) m zero_field ≡ field (get_or (table a b c) m no_row)
-kind_at a b c m field e same =
-    ap (λ (ks : List FieldKind). get_or ks m zero_field) (sym same)
-    ∙ ap (get_or (map field (table a b c)) m) (sym e)
-    ∙ get_or-map field (table a b c) m no_row
-
-module _ (locks variables a b c m : ℕ) (h : m < length (table 0 0 0)) where
-  abbrev column_of : (TableRow → FieldKind) → List ℕ
-  column_of field = column locks variables (kinds field)
-
-  limit_a : get_or (limits_of locks variables) (suc m) 0 ≡ limit_of locks variables (get_or (table a b c) m no_row).a
-  unfolding limits_of
-  limit_a =
-      get_or-append (column_of (λ r. r.a)) (column_of (λ r. r.b) ++ column_of (λ r. r.c)) 0 (suc m) (omega arith)
-      ∙ column_at locks variables m (kinds (λ r. r.a)) h (omega arith)
-      ∙ ap (limit_of locks variables) (kind_at a b c m (λ r. r.a) refl refl)
-
-  limit_b : get_or (limits_of locks variables) (32 + suc m) 0 ≡ limit_of locks variables (get_or (table a b c) m no_row).b
-  unfolding limits_of
-  limit_b =
-      get_or-append-add (column_of (λ r. r.a)) (column_of (λ r. r.b) ++ column_of (λ r. r.c)) (suc m) 0
-      ∙ get_or-append (column_of (λ r. r.b)) (column_of (λ r. r.c)) 0 (suc m) (omega arith)
-      ∙ column_at locks variables m (kinds (λ r. r.b)) h (omega arith)
-      ∙ ap (limit_of locks variables) (kind_at a b c m (λ r. r.b) refl refl)
-
-  limit_c : get_or (limits_of locks variables) (64 + suc m) 0 ≡ limit_of locks variables (get_or (table a b c) m no_row).c
-  unfolding limits_of
-  limit_c =
-      let two : 64 + suc m ≡ 32 + (32 + suc m) = omega arith in
-      ap (λ (n : ℕ). get_or (limits_of locks variables) n 0) two
-      ∙ get_or-append-add (column_of (λ r. r.a)) (column_of (λ r. r.b) ++ column_of (λ r. r.c)) (32 + suc m) 0
-      ∙ get_or-append-add (column_of (λ r. r.b)) (column_of (λ r. r.c)) (suc m) 0
-      ∙ column_at locks variables m (kinds (λ r. r.c)) h (omega arith)
-      ∙ ap (limit_of locks variables) (kind_at a b c m (λ r. r.c) refl refl)
-
 module _ (locks variables op a b c : ℕ) (p : a < 256) (q : b < 256) (r : c < 256) where
   abbrev FitsAt : ℕ → Type 0
-  FitsAt row = fits (limits_of locks variables) row a b c ≡ is_valid (decode locks variables op a b c)
+  FitsAt n = fits (get_or (limits_of locks variables) n (record { 0 = 0; 1 = 0; 2 = 0 })) a b c ≡ is_valid (decode locks variables op a b c)
 
   fits_some : (m : ℕ) → row_of op ≡ suc m → FitsAt (suc m)
-  unfolding fits decode row_of
+  unfolding decode limits_of row_of
   fits_some m e =
       let x = get_or (table a b c) m no_row in
       let h : m < length (table 0 0 0) = omega (arith, e, row_below op) in
       rw (
-        limit_a locks variables a b c m h,
-        limit_b locks variables a b c m h,
-        limit_c locks variables a b c m h,
+        get_d_any (map (row_limits locks variables) (table a b c)) m _ (row_limits locks variables no_row) h,
+        get_or-map (row_limits locks variables) (table a b c) m no_row,
         right_below locks variables a p x.a,
         right_below locks variables b q x.b,
         right_below locks variables c r x.c,
@@ -216,7 +166,7 @@ module _ (locks variables op a b c : ℕ) (p : a < 256) (q : b < 256) (r : c < 2
       ∙ valid_fields (is_right_row locks variables a b c x) x.instruction))
 
   fits_none : row_of op ≡ 0 → FitsAt 0
-  unfolding fits limits_of decode row_of
+  unfolding limits_of decode row_of
   fits_none e = rw (le-ltb a 0 (omega arith), position_none locks variables op a b c 1 (table a b c) (omega arith) e)
 
   -- bytes are valid exactly if they lie below the limits of their row
@@ -236,19 +186,32 @@ all_right x y z e =
     let g = (and-eq-true_iff x y).0 h.0 in
     (g.0, g.1, h.1)
 
-module _ (locks variables : ℕ) (k j : FieldKind) (a b c : ℕ) where
-  pub one_register : is_right_row locks variables a b c (row 0 register k j End) ≡ true → AreRegisters (a ∷ [])
-  one_register e = (ltb-true a register_count (all_right (ltb a register_count) (is_right locks variables k b) (is_right locks variables j c) e).0, tt)
+-- a register field names a register before those of the fields after it
+abbrev register_in : FieldKind → ℕ → List ℕ → List ℕ
+register_in register x rs = x ∷ rs
+register_in variable x rs = rs
+register_in lock x rs = rs
+register_in zero_field x rs = rs
+register_in part x rs = rs
+register_in statement x rs = rs
 
-  pub two_registers : is_right_row locks variables a b c (row 0 register register j End) ≡ true → AreRegisters (a ∷ b ∷ [])
-  two_registers e =
-      let h = all_right (ltb a register_count) (ltb b register_count) (is_right locks variables j c) e in
-      (ltb-true a register_count h.0, (ltb-true b register_count h.1, tt))
+abbrev pub registers_in : TableRow → (a b c : ℕ) → List ℕ
+registers_in r a b c = register_in r.a a (register_in r.b b (register_in r.c c []))
 
-pub three_registers : (a b c : ℕ) → is_right_row 0 0 a b c (row 0 register register register End) ≡ true → AreRegisters (a ∷ b ∷ c ∷ [])
-three_registers a b c e =
-    let h = all_right (ltb a register_count) (ltb b register_count) (ltb c register_count) e in
-    (ltb-true a register_count h.0, (ltb-true b register_count h.1, (ltb-true c register_count h.2, tt)))
+right_register : (locks variables x : ℕ) (k : FieldKind) (rs : List ℕ) → is_right locks variables k x ≡ true → AreRegisters rs
+    → AreRegisters (register_in k x rs)
+right_register locks variables x register rs e h = (ltb-true x register_count e, h)
+right_register locks variables x variable rs e h = h
+right_register locks variables x lock rs e h = h
+right_register locks variables x zero_field rs e h = h
+right_register locks variables x part rs e h = h
+right_register locks variables x statement rs e h = h
+
+-- the registers of right fields are registers that there are
+pub right_registers : (locks variables a b c : ℕ) (r : TableRow) → is_right_row locks variables a b c r ≡ true → AreRegisters (registers_in r a b c)
+right_registers locks variables a b c r e =
+    let h = all_right (is_right locks variables r.a a) (is_right locks variables r.b b) (is_right locks variables r.c c) e in
+    right_register locks variables a r.a _ h.0 (right_register locks variables b r.b _ h.1 (right_register locks variables c r.c [] h.2 tt))
 
 -- ---- what the rows have in common
 
@@ -265,17 +228,33 @@ each_row_lem test n (suc m) (r ∷ rs) e h =
     let same : n + suc m ≡ suc n + m = omega arith in
     rw same (each_row_lem test (suc n) m rs ((and-eq-true_iff (test n r) (each_row test (suc n) rs)).0 e).1 (omega arith))
 
-is_plain : Form → Bool
-is_plain form.Plain = true
-is_plain (form.If a n) = false
-is_plain (form.Else n) = false
-is_plain (form.While a n) = false
-is_plain (form.Again n) = false
-is_plain (form.Atomic n) = false
-is_plain form.End = false
+pub or_right : (x y : Bool) → (x || y) ≡ true → x ≡ false → y ≡ true
+or_right true y e k = differ cc
+or_right false y e k = e
 
-plain_is : (f : Form) → is_plain f ≡ true → f ≡ form.Plain
-unfolding is_plain
+-- ---- rows of the enum
+
+-- what two lists of rows show of each is the same: where both are known, `refl` compares them
+each_same : {A : Type 0} (f g : TableRow → A) (xs ys : List TableRow) → f no_row ≡ g no_row → map f xs ≡ map g ys → (m : ℕ)
+    → f (get_or xs m no_row) ≡ g (get_or ys m no_row)
+each_same f g xs ys outside same m =
+    sym (get_or-map f xs m no_row) ∙ ap (λ us. get_or us m (f no_row)) same ∙ ap (get_or (map g ys) m) outside ∙ get_or-map g ys m no_row
+
+-- fields b and c say the distance alone
+pub by_row : (r : Row) (a b c : ℕ) → form_of (instruction_in r a b c) ≡ at_distance (b * 256 + c) (form_of (instruction_in r a 0 0))
+unfolding form_of
+by_row r a b c =
+    each_same (λ x. form_of x.instruction) (λ x. at_distance (b * 256 + c) (form_of x.instruction)) (no_row ∷ table a b c) (no_row ∷ table a 0 0)
+    refl refl (number_of r)
+
+-- whether a form is plain is the row's
+plain_by_row : (r : Row) (a b c : ℕ) → is_plain (form_of (instruction_in r a b c)) ≡ is_plain (form_of (instruction_in r 0 0 0))
+unfolding form_of
+plain_by_row r a b c =
+    each_same (λ x. is_plain (form_of x.instruction)) (λ x. is_plain (form_of x.instruction)) (no_row ∷ table a b c) (no_row ∷ table 0 0 0)
+    refl refl (number_of r)
+
+pub plain_is : (f : Form) → is_plain f ≡ true → f ≡ form.Plain
 plain_is form.Plain e = refl
 plain_is (form.If a n) e = differ cc
 plain_is (form.Else n) e = differ cc
@@ -284,57 +263,59 @@ plain_is (form.Again n) e = differ cc
 plain_is (form.Atomic n) e = differ cc
 plain_is form.End e = differ cc
 
-pub or_right : (x y : Bool) → (x || y) ≡ true → x ≡ false → y ≡ true
-or_right true y e k = differ cc
-or_right false y e k = e
+-- the registers that a row's instruction names are its register fields
+registers_by_row : (r : Row) (a b c : ℕ) → registers_of (seen (instruction_in r a b c)) ≡ registers_in (row_in r a b c) a b c
+registers_by_row r a b c =
+    each_same (λ x. registers_of (seen x.instruction)) (λ x. registers_in x a b c) (no_row ∷ table a b c) (no_row ∷ table a b c)
+    refl refl (number_of r)
 
-module _ (locks variables op a b c : ℕ) where
-  -- a row with no bit is no opener's or closer's
-  pub row_plain : is_valid (decode locks variables op a b c) ≡ true → eqb (nesting_rows / 2 ^ row_of op % 2) 1 ≡ false
-      → form_of (decoded_instruction (decode locks variables op a b c)) ≡ form.Plain
-  unfolding form_of is_plain
-  row_plain valid unset =
-      let m = row_of op - 1 in
-      let is_m : row_of op ≡ suc m = omega (arith, row_some locks variables op a b c valid) in
-      let number : 1 + m ≡ row_of op = omega (arith, is_m) in
-      let said = row_said locks variables op a b c m is_m valid in
-      rw (← said.0)
-      (plain_is (form_of (get_or (table a b c) m no_row).instruction)
-      (or_right (eqb (nesting_rows / 2 ^ (1 + m) % 2) 1) (is_plain (form_of (get_or (table a b c) m no_row).instruction))
-      (each_row_lem (λ n r. eqb (nesting_rows / 2 ^ n % 2) 1 || is_plain (form_of r.instruction)) 1 m (table a b c) refl (omega (arith, row_below op)))
-      (rw number unset)))
+-- rows 10 to 15
+abbrev pub nests : ℕ → Bool
+nests n = leb 10 n && leb n 15
 
-  -- rows 10 to 15, and their forms
-  abbrev nests : ℕ → Bool
-  nests n = leb 10 n && leb n 15
+module _ (locks variables op a b c : ℕ) (valid : is_valid (decode locks variables op a b c) ≡ true) (r : Row) (e : number_of r ≡ row_of op) where
+  m : ℕ
+  m = row_of op - 1
 
-  by_row : (k : ℕ) → k < 6 → row_of op ≡ suc (9 + k) → is_valid (decode locks variables op a b c) ≡ true
-      → form_of (decoded_instruction (decode locks variables op a b c)) ≡ row_form (suc (9 + k)) a (b * 256 + c)
+  is_m : row_of op ≡ suc m
+  unfolding m
+  is_m = omega (arith, row_some locks variables op a b c valid)
+
+  -- the row of the enum is the op code's
+  row_number : number_of r ≡ suc m
+  row_number = e ∙ is_m
+
+  of_some : {is : Bool} → is_nesting r ≡ is → not (is_plain (form_of (instruction_in r 0 0 0))) ≡ is
+  of_some h = ap (λ some. some && not (is_plain (form_of (instruction_in r 0 0 0)))) (sym (lt-ltb 0 (number_of r) (omega (arith, row_number)))) ∙ h
+
+  -- valid bytes are the instruction of their op code's row
+  pub row_instruction : instruction_in r a b c ≡ decoded_instruction (decode locks variables op a b c)
+  row_instruction = rw (instruction_in, row_in, row_number) (row_said locks variables op a b c m is_m valid).0
+
+  -- ... which names registers that there are
+  pub row_registers : RegistersGood (instruction_in r a b c)
+  row_registers =
+      rw (registers_by_row r a b c, row_in, row_number)
+      (right_registers locks variables a b c (get_or (table a b c) m no_row) (row_said locks variables op a b c m is_m valid).1)
+
+  -- the form of an opener or a closer is its row's
+  pub row_form_lem : is_nesting r ≡ true → form_of (decoded_instruction (decode locks variables op a b c)) ≡ row_form r a (b * 256 + c)
+  row_form_lem nesting = rw (nesting, ← row_instruction) (by_row r a b c)
+
+  -- any other is plain
+  pub row_plain : is_nesting r ≡ false → form_of (decoded_instruction (decode locks variables op a b c)) ≡ form.Plain
+  row_plain other = rw (← row_instruction) (plain_is _ (plain_by_row r a b c ∙ not-false _ (of_some other)))
+
+  -- openers and closers are rows 10 to 15
+  pub nesting_rows : is_nesting r ≡ true → nests (number_of r) ≡ true
   unfolding form_of
-  by_row zero h e valid = rw (← (row_said locks variables op a b c 9 e valid).0)
-  by_row (suc zero) h e valid = rw (← (row_said locks variables op a b c 10 e valid).0)
-  by_row (suc (suc zero)) h e valid = rw (← (row_said locks variables op a b c 11 e valid).0)
-  by_row (suc (suc (suc zero))) h e valid = rw (← (row_said locks variables op a b c 12 e valid).0)
-  by_row (suc (suc (suc (suc zero)))) h e valid = rw (← (row_said locks variables op a b c 13 e valid).0)
-  by_row (suc (suc (suc (suc (suc zero))))) h e valid = rw (← (row_said locks variables op a b c 14 e valid).0)
-  by_row (suc (suc (suc (suc (suc (suc k)))))) h e valid = absurd (let z : ⊥ = omega arith in z)
-
-  -- a row with its bit is an opener's or a closer's
-  pub row_form_lem : is_valid (decode locks variables op a b c) ≡ true → eqb (nesting_rows / 2 ^ row_of op % 2) 1 ≡ true
-      → form_of (decoded_instruction (decode locks variables op a b c)) ≡ row_form (row_of op) a (b * 256 + c)
-  row_form_lem valid bit =
-      let m = row_of op - 1 in
-      let is_m : row_of op ≡ suc m = omega (arith, row_some locks variables op a b c valid) in
-      let number : 1 + m ≡ row_of op = omega (arith, is_m) in
-      let among : nests (row_of op) ≡ true = rw number at (or_right (eqb (nesting_rows / 2 ^ (1 + m) % 2) 0) (nests (1 + m))
-      (each_row_lem (λ n r. eqb (nesting_rows / 2 ^ n % 2) 0 || nests n) 1 m (table a b c) refl (omega (arith, row_below op)))
-      (rw number (ne_eqb (nesting_rows / 2 ^ row_of op % 2) 0 (λ e. omega (arith, eqb-true (nesting_rows / 2 ^ row_of op % 2) 1 bit))))) in
-      let h = (and-eq-true_iff (leb 10 (row_of op)) (leb (row_of op) 15)).0 among in
-      let low = leb-true 10 (row_of op) h.0 in
-      let high = leb-true (row_of op) 15 h.1 in
-      let k = row_of op - 10 in
-      let is_k : row_of op ≡ suc (9 + k) = omega arith in
-      by_row k (omega arith) is_k valid ∙ ap (λ (r : ℕ). row_form r a (b * 256 + c)) (sym is_k)
+  nesting_rows is =
+      let shaped : is_plain (form_of (instruction_in r 0 0 0)) ≡ false = not-true _ (of_some is) in
+      let number : 1 + m ≡ number_of r = omega (arith, row_number) in
+      rw (← number)
+      (or_right _ (nests (1 + m))
+      (each_row_lem (λ n x. is_plain (form_of x.instruction) || nests n) 1 m (table 0 0 0) refl (omega (arith, is_m, row_below op)))
+      (rw (instruction_in, row_in, row_number) at shaped))
 
 -- ---- accesses
 
@@ -465,4 +446,8 @@ rows_from_lem (suc n) op (suc i) h = rows_from_lem n (suc op) i (omega arith) �
 -- by op code
 pub rows_at : (op : ℕ) → op < 256 → get_or row_table op 0 ≡ row_of op
 unfolding row_table
-rows_at op h = rows_from_lem 256 0 op h ∙ ap row_of (omega arith)
+rows_at op h = rows_from_lem 256 0 op h ∙ ap row_of (zero-add op)
+
+-- ... for a table of the enum's rows
+pub rows_numbered : (op : ℕ) → op < 256 → (rows : List Row) → map number_of rows ≡ row_table → number_of (get_or rows op row.Unknown) ≡ row_of op
+rows_numbered op h rows e = sym (get_or-map number_of rows op row.Unknown) ∙ ap (λ (ns : List ℕ). get_or ns op 0) e ∙ rows_at op h

@@ -8,7 +8,7 @@ use native.Mathlib.Omega.{arith}
 use mathlib.Core.Path.{◌≡◌, sym, subst}
 use mathlib.Core.List.{List, [], ◌∷◌}
 use lib.ListN.{length, get_or}
-use Rattle.program.specs.declared.found.Found.TheVariants.{Nowhere}
+use Rattle.std.specs.Prelude.{None}
 use Rattle.program.specs.declared.instruction.Instruction.{Instruction}
 use Rattle.program.specs.declared.instruction.Instruction.TheVariants as instruction
 use Rattle.program.specs.declared.nesting.Entry.{Entry}
@@ -55,7 +55,7 @@ jump_at q p [] i l j = absurd (omega arith)
 jump_at q p (x ∷ is) zero l j = rw add-zero j.0
 jump_at q p (x ∷ is) (suc i) l j = rw (add-suc, ← (suc-add p i)) (jump_at q (suc p) is i (omega arith) j.1)
 
-module _ (is : List Instruction) (h : first_broken 0 is [] ≡ Nowhere) (i : ℕ) (l : i < length is) where
+module _ (is : List Instruction) (h : first_broken 0 is [] ≡ None) (i : ℕ) (l : i < length is) where
   -- the i-th instruction's distance leads to a place of the code
   pub jump : Jump (length is) i (form_of (get_or is i instruction.End))
   unfolding LeadBack

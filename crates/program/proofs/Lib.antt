@@ -9,8 +9,7 @@
 --     Contents     a file's contents by index
 --     Writers      the threads that write a variable
 --     Search       the search for the first offence
---     Stack        a stack held in an array
---     Change       what one instruction does to the open entries
+--     TopFirst     the stack of src/stack.rt
 --     Scan         the scan for the first place where nesting is broken
 --     Walking      the walk over a code section, one instruction at a time
 --     Marks        the table of writers, filled an instruction at a time
@@ -39,8 +38,7 @@ pub mod Seen
 pub mod Contents
 pub mod Writers
 pub mod Search
-pub mod Stack
-pub mod Change
+pub mod TopFirst
 pub mod Scan
 pub mod Walking
 pub mod Marks

@@ -10,7 +10,6 @@
 --     sets-append        two runs of stores, the second right behind the first
 --     set-sets           a store in front of a run of stores
 --     sets-front         a run of stores from the front on; what is behind it stays
---     sets-copied        one element more of a list that is copied
 --     flat_map-append, flat_map-next, length-flat_map
 --                        what the elements of a list give, one after the other: of two lists; of one element more; how much, where
 --                        each gives as much
@@ -26,7 +25,7 @@ use native.Mathlib.Numerals.{add-one}
 use native.Mathlib.Omega.{arith}
 use lib.ListN.{length, get_or, set, take, drop, replicate, length-append, length-drop, drop_of_length-le}
 use lib.Dec.{eqb, eqb-zero-suc, eqb-suc-zero, eqb-suc-suc}
-use lib.Seq.{sets, set_comm, sets-eq, take-suc, take_all, get_or-take, length-take-le}
+use lib.Seq.{sets, set_comm, sets-eq, take-suc, take_all, get_or-take}
 use Rattle.program.specs.Choice.{choose}
 
 module _ {A : Type 0} where
@@ -77,12 +76,6 @@ module _ {A : Type 0} where
 
   pub sets-front : (l v : List A) → length v ≤ length l → sets l 0 v ≡ v ++ drop (length v) l
   sets-front l v h = sets-eq v l 0 (omega arith) ∙ ap (λ (k : ℕ). v ++ drop k l) (zero-add (length v))
-
-  pub sets-copied : (l : List A) (at : ℕ) (v : List A) (i : ℕ) (d : A) → i < length v
-      → set (sets l at (take i v)) (at + i) (get_or v i d) ≡ sets l at (take (i + 1) v)
-  sets-copied l at v i d h =
-      let k : i ≤ length v = omega arith in
-      rw (add-one, take-suc v i d h, sets-append, length-take-le i v k)
 
   flatten_snoc : (ls : List (List A)) (l : List A) → flatten (ls ++ l ∷ []) ≡ flatten ls ++ l
   unfolding flatten

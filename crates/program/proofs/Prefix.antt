@@ -17,7 +17,8 @@ use lib.ListN.{length}
 use lib.Dec.{leb, eqb}
 use native.Mathlib.Omega.{arith}
 use borrow.Author.Tests.{leb-true, le-leb, ne_eqb}
-use Rattle.program.specs.Answer.{Answer, fine, refused, ◌>>=◌, require, require_none}
+use Rattle.program.specs.Answer.{Answer, ◌>>=◌, require, require_none}
+use Rattle.std.specs.Prelude.{Ok, Err}
 use Rattle.program.specs.Choice.{first_bad}
 use Rattle.program.specs.Field.{byte_at, pair_at, cursor, present, pair_field, section}
 use Rattle.program.specs.Variable.{record_at}
@@ -44,7 +45,7 @@ abbrev PartRead : Type 0
 PartRead = Answer (ℕ × Cursor)
 
 -- two answers that agree, and two ways to go on that agree wherever they are fine
-bind_alike : (m n : PartRead) (k l : ℕ × Cursor → PartRead) → m ≡ n → ((x : ℕ × Cursor) → m ≡ fine x → k x ≡ l x) → (m >>= k) ≡ (n >>= l)
+bind_alike : (m n : PartRead) (k l : ℕ × Cursor → PartRead) → m ≡ n → ((x : ℕ × Cursor) → m ≡ Ok x → k x ≡ l x) → (m >>= k) ≡ (n >>= l)
 bind_alike m n k l e h = bind_ext m k l h ∙ ap (λ (m : PartRead). m >>= l) e
 
 -- two tests that agree wherever all bytes of a record are below n
@@ -57,12 +58,12 @@ first_bad_alike p q step n same (suc k) at h =
 
 -- where reading stands after code sections, of 2 + 4,096 bytes at most each
 module _ (locks variables : ℕ) (s : List ℕ) where
-  code_end : (c : Cursor) (m : ℕ) (d : Cursor) → code_section locks variables s c ≡ fine (m, d) → d.at ≤ c.at + (2 + code_section_limit)
+  code_end : (c : Cursor) (m : ℕ) (d : Cursor) → code_section locks variables s c ≡ Ok (m, d) → d.at ≤ c.at + (2 + code_section_limit)
   code_end c m d e =
       let r = code_value locks variables s c m d e in
       omega (arith, ap (λ (x : Cursor). x.at) r.past, r.head.few)
 
-  sections_end : (n : ℕ) (c : Cursor) (m : ℕ) (d : Cursor) → code_sections locks variables s n c ≡ fine (m, d) → d.at ≤ c.at + (2 + code_section_limit) * n
+  sections_end : (n : ℕ) (c : Cursor) (m : ℕ) (d : Cursor) → code_sections locks variables s n c ≡ Ok (m, d) → d.at ≤ c.at + (2 + code_section_limit) * n
   unfolding code_sections
   sections_end zero c m d e =
       omega (arith, ap (λ (x : Cursor). x.at) (fine_parts (0, c) (m, d) e).1)
@@ -87,7 +88,7 @@ module _ (s t : List ℕ) (n : ℕ) (long_s : n ≤ length s) (long_t : n ≤ le
   section_alike size limit c h =
       let m = pair_at t c.at in
       let last : List ℕ → PartRead =
-      λ f. require (leb (c.at + 2 + m) (length f)) (Missing (length f)) (fine (m / size, cursor (c.at + 2))) in
+      λ f. require (leb (c.at + 2 + m) (length f)) (Missing (length f)) (Ok (m / size, cursor (c.at + 2))) in
       rw (le-leb (c.at + 2) (length s) (omega arith), le-leb (c.at + 2) (length t) (omega arith), pair_alike c.at (omega arith))
       (require_ext (eqb (m % size) 0 && leb m limit) (Length c.at) (last s) (last t)
       (λ ok.
@@ -103,7 +104,7 @@ module _ (s t : List ℕ) (n : ℕ) (long_s : n ≤ length s) (long_t : n ≤ le
   variables_alike locks threads c h =
       let good : List ℕ → ℕ → Bool = λ f p. Variable.is_valid (record_at locks threads f p) in
       let rest : List ℕ → ℕ × Cursor → PartRead =
-      λ f x. require_none (first_bad (good f) 6 x.0 x.1.at) Record (fine (x.0, cursor (x.1.at + 6 * x.0))) in
+      λ f x. require_none (first_bad (good f) 6 x.0 x.1.at) Record (Ok (x.0, cursor (x.1.at + 6 * x.0))) in
       bind_alike (section variable_size variable_section_limit s c) (section variable_size variable_section_limit t c) (rest s) (rest t) (section_alike variable_size variable_section_limit c (omega arith))
       (λ x e.
       let r = section_value variable_size variable_section_limit s c x.0 x.1 e in
@@ -129,7 +130,7 @@ module _ (s t : List ℕ) (n : ℕ) (long_s : n ≤ length s) (long_t : n ≤ le
         let rest : List ℕ → ℕ × Cursor → PartRead =
         λ f x. require_none (first_bad (good f) 4 x.0 x.1.at) refusal.Instruction
         (require_none (offset_from x.1.at (first_broken 0 (instructions_at locks variables f x.0 x.1.at) [])) Nesting
-        (fine (x.0, cursor (x.1.at + 4 * x.0)))) in
+        (Ok (x.0, cursor (x.1.at + 4 * x.0)))) in
         bind_alike (section instruction_size code_section_limit s c) (section instruction_size code_section_limit t c) (rest s) (rest t) (section_alike instruction_size code_section_limit c (omega arith))
         (λ x e.
         let r = section_value instruction_size code_section_limit s c x.0 x.1 e in
@@ -145,7 +146,7 @@ module _ (s t : List ℕ) (n : ℕ) (long_s : n ≤ length s) (long_t : n ≤ le
     sections_alike zero c h = refl
     sections_alike (suc k) c h =
         let rest : List ℕ → ℕ × Cursor → PartRead =
-        λ f x. code_sections locks variables f k x.1 >>= (λ y. fine (x.0 + y.0, y.1)) in
+        λ f x. code_sections locks variables f k x.1 >>= (λ y. Ok (x.0 + y.0, y.1)) in
         bind_alike (code_section locks variables s c) (code_section locks variables t c) (rest s) (rest t) (code_alike c (omega arith))
         (λ x e. rw (sections_alike k x.1 (omega (arith, code_end locks variables s c x.0 x.1 e))))
 
@@ -211,13 +212,13 @@ largest_file_lem s l h =
     )
 
 -- a longer file is refused
-longer_refused : (s : List ℕ) → bench_limit ≤ length s → (m : Answer Layout) → reading s ≡ m → (r : Refusal) × (m ≡ refused r)
-longer_refused s h (refused r) e = (r, refl)
-longer_refused s h (fine l) e = absurd (let none : ⊥ = omega (arith, largest_file_lem s l (sound_file s l e)) in none)
+longer_refused : (s : List ℕ) → bench_limit ≤ length s → (m : Answer Layout) → reading s ≡ m → (r : Refusal) × (m ≡ Err r)
+longer_refused s h (Err r) e = (r, refl)
+longer_refused s h (Ok l) e = absurd (let none : ⊥ = omega (arith, largest_file_lem s l (sound_file s l e)) in none)
 
 -- both are refused, with the same refusal
 pub refused_alike : (s t : List ℕ) → bench_limit ≤ length s → bench_limit ≤ length t → ((i : ℕ) → i < bench_limit → byte_at s i ≡ byte_at t i)
-    → (r : Refusal) × (reading s ≡ refused r) × (reading t ≡ refused r)
+    → (r : Refusal) × (reading s ≡ Err r) × (reading t ≡ Err r)
 refused_alike s t long_s long_t same =
     let r = longer_refused s long_s (reading s) refl in
     (r.0, r.1, sym (reading_alike s t bench_limit long_s long_t same (omega arith)) ∙ r.1)

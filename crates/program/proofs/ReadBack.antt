@@ -13,7 +13,6 @@ use lib.Dec.{leb, eqb}
 use native.Mathlib.Nat.{div-add-mod', mul_comm}
 use native.Mathlib.Omega.{arith}
 use borrow.Author.Tests.{leb-true, eqb-true}
-use Rattle.program.specs.Answer.{fine}
 use Rattle.program.specs.Choice.{first_bad}
 use Rattle.program.specs.Field.{byte_at, pair_at, cursor, present, byte_field, pair_field, section}
 use Rattle.program.specs.Variable.{record_at}
@@ -25,13 +24,12 @@ use Rattle.program.specs.Limits.{variable_size, instruction_size, variable_secti
 use Rattle.program.specs.Internal.Marks.{codes_in}
 use Rattle.program.specs.Layout.{instructions_at, codes_at, variable_section, code_section, offset_from}
 use Rattle.program.specs.declared.cursor.Cursor.{Cursor}
-use Rattle.program.specs.declared.found.Found.{Found}
-use Rattle.program.specs.declared.found.Found.TheVariants.{Nowhere, At}
+use Rattle.std.specs.Prelude.{Option, Some, None, Ok}
 use Rattle.program.proofs.Answer.{fine_parts, bind_inv, require_inv, none_inv}
 use Rattle.program.proofs.Differ.{differ}
 
 -- a field of one byte, and of two
-pub byte_value : (s : List ℕ) (c : Cursor) (v : ℕ) (d : Cursor) → byte_field s c ≡ fine (v, d)
+pub byte_value : (s : List ℕ) (c : Cursor) (v : ℕ) (d : Cursor) → byte_field s c ≡ Ok (v, d)
     → (c.at + 1 ≤ length s) × (v ≡ byte_at s c.at) × (d ≡ cursor (c.at + 1))
 unfolding byte_field present
 byte_value s c v d e =
@@ -39,7 +37,7 @@ byte_value s c v d e =
     let values = fine_parts _ (v, d) answer in
     (leb-true (c.at + 1) (length s) there, sym values.0, sym values.1)
 
-pub pair_value : (s : List ℕ) (c : Cursor) (v : ℕ) (d : Cursor) → pair_field s c ≡ fine (v, d)
+pub pair_value : (s : List ℕ) (c : Cursor) (v : ℕ) (d : Cursor) → pair_field s c ≡ Ok (v, d)
     → (c.at + 2 ≤ length s) × (v ≡ pair_at s c.at) × (d ≡ cursor (c.at + 2))
 unfolding pair_field present
 pair_value s c v d e =
@@ -62,7 +60,7 @@ pub record Head (size limit : ℕ) (s : List ℕ) (at n : ℕ) (first : Cursor) 
   pub start : first ≡ cursor (at + 2)
   pub whole : at + 2 + size * n ≤ length s
 
-pub section_value : (size limit : ℕ) (s : List ℕ) (c : Cursor) (n : ℕ) (first : Cursor) → section size limit s c ≡ fine (n, first)
+pub section_value : (size limit : ℕ) (s : List ℕ) (c : Cursor) (n : ℕ) (first : Cursor) → section size limit s c ≡ Ok (n, first)
     → Head size limit s c.at n first
 unfolding section present
 section_value size limit s c n first e =
@@ -88,10 +86,10 @@ section_value size limit s c n first e =
 -- the variable section, and the cursor past it
 pub record VariablesRead (locks threads : ℕ) (s : List ℕ) (at n : ℕ) (d : Cursor) : Type 0 where
   pub head : Head variable_size variable_section_limit s at n (cursor (at + 2))
-  pub valid : first_bad (λ p. Variable.is_valid (record_at locks threads s p)) 6 n (at + 2) ≡ Nowhere
+  pub valid : first_bad (λ p. Variable.is_valid (record_at locks threads s p)) 6 n (at + 2) ≡ None
   pub past : d ≡ cursor (at + 2 + 6 * n)
 
-pub variables_value : (locks threads : ℕ) (s : List ℕ) (c : Cursor) (n : ℕ) (d : Cursor) → variable_section locks threads s c ≡ fine (n, d)
+pub variables_value : (locks threads : ℕ) (s : List ℕ) (c : Cursor) (n : ℕ) (d : Cursor) → variable_section locks threads s c ≡ Ok (n, d)
     → VariablesRead locks threads s c.at n d
 unfolding variable_section
 variables_value locks threads s c n d e =
@@ -109,8 +107,8 @@ variables_value locks threads s c n d e =
     }
 
 -- the codes, by the numbers that were read before them
-pub codes_in_lem : (s : List ℕ) (version locks threads variables : ℕ) (c₁ c₂ c₃ c₄ : Cursor) → byte_field s (cursor 0) ≡ fine (version, c₁)
-    → byte_field s c₁ ≡ fine (locks, c₂) → byte_field s c₂ ≡ fine (threads, c₃) → variable_section locks threads s c₃ ≡ fine (variables, c₄)
+pub codes_in_lem : (s : List ℕ) (version locks threads variables : ℕ) (c₁ c₂ c₃ c₄ : Cursor) → byte_field s (cursor 0) ≡ Ok (version, c₁)
+    → byte_field s c₁ ≡ Ok (locks, c₂) → byte_field s c₂ ≡ Ok (threads, c₃) → variable_section locks threads s c₃ ≡ Ok (variables, c₄)
     → codes_at locks variables s threads c₄.at ≡ codes_in s
 codes_in_lem s version locks threads variables c₁ c₂ c₃ c₄ e₁ e₂ e₃ e₄ =
     let offset : (c : Cursor) (d : ℕ) → c ≡ cursor d → c.at ≡ d = λ c d e. ap (λ (x : Cursor). x.at) e in
@@ -129,16 +127,16 @@ codes_in_lem s version locks threads variables c₁ c₂ c₃ c₄ e₁ e₂ e�
 -- a code section, and the cursor past it
 pub record CodeRead (locks variables : ℕ) (s : List ℕ) (at n : ℕ) (d : Cursor) : Type 0 where
   pub head : Head instruction_size code_section_limit s at n (cursor (at + 2))
-  pub valid : first_bad (λ p. Instruction.is_valid (decode_at locks variables s p)) 4 n (at + 2) ≡ Nowhere
-  pub nested : first_broken 0 (instructions_at locks variables s n (at + 2)) [] ≡ Nowhere
+  pub valid : first_bad (λ p. Instruction.is_valid (decode_at locks variables s p)) 4 n (at + 2) ≡ None
+  pub nested : first_broken 0 (instructions_at locks variables s n (at + 2)) [] ≡ None
   pub past : d ≡ cursor (at + 2 + 4 * n)
 
 -- an offset is nowhere only if the place is
-offset_nowhere : (start : ℕ) (f : Found) → offset_from start f ≡ Nowhere → f ≡ Nowhere
-offset_nowhere start Nowhere e = refl
-offset_nowhere start (At p) e = differ cc
+offset_nowhere : (start : ℕ) (f : Option ℕ) → offset_from start f ≡ None → f ≡ None
+offset_nowhere start None e = refl
+offset_nowhere start (Some p) e = differ cc
 
-pub code_value : (locks variables : ℕ) (s : List ℕ) (c : Cursor) (n : ℕ) (d : Cursor) → code_section locks variables s c ≡ fine (n, d)
+pub code_value : (locks variables : ℕ) (s : List ℕ) (c : Cursor) (n : ℕ) (d : Cursor) → code_section locks variables s c ≡ Ok (n, d)
     → CodeRead locks variables s c.at n d
 unfolding code_section
 code_value locks variables s c n d e =

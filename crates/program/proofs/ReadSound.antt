@@ -10,7 +10,7 @@ use mathlib.Core.List.{List}
 use lib.ListN.{length}
 use native.Mathlib.Omega.{arith}
 use borrow.Author.Tests.{le-leb, eq-eqb}
-use Rattle.program.specs.Answer.{fine}
+use Rattle.std.specs.Prelude.{Ok}
 use Rattle.program.specs.Field.{byte_at, pair_at, cursor, present, byte_field, pair_field, section}
 use Rattle.program.specs.Instruction.{decode_at}
 use Rattle.program.specs.Instruction
@@ -24,20 +24,20 @@ use Rattle.program.proofs.Answer.{bind_on}
 use Rattle.program.proofs.Search.{first_bad_all}
 
 -- a byte that is there
-pub byte_there : (s : List ℕ) (at : ℕ) → at + 1 ≤ length s → byte_field s (cursor at) ≡ fine (byte_at s at, cursor (at + 1))
+pub byte_there : (s : List ℕ) (at : ℕ) → at + 1 ≤ length s → byte_field s (cursor at) ≡ Ok (byte_at s at, cursor (at + 1))
 unfolding byte_field present
 byte_there s at h = rw (le-leb (at + 1) (length s) h)
 
 -- a section's head, whose length field says size times n
 section_there : (size limit : ℕ) (s : List ℕ) (at n : ℕ) → pair_at s at % size ≡ 0 → pair_at s at / size ≡ n → at + 2 ≤ length s → pair_at s at ≤ limit
-    → at + 2 + pair_at s at ≤ length s → section size limit s (cursor at) ≡ fine (n, cursor (at + 2))
+    → at + 2 + pair_at s at ≤ length s → section size limit s (cursor at) ≡ Ok (n, cursor (at + 2))
 unfolding section pair_field present
 section_there size limit s at n exact count head few whole =
     rw (le-leb (at + 2) (length s) head, exact, le-leb (pair_at s at) limit few, le-leb (at + 2 + pair_at s at) (length s) whole, count)
 
 module _ (s : List ℕ) (locks variables : ℕ) where
   code_sound : (at : ℕ) → SoundSection s locks variables at
-      → code_section locks variables s (cursor at) ≡ fine (count_at s at, cursor (at + 2 + 4 * count_at s at))
+      → code_section locks variables s (cursor at) ≡ Ok (count_at s at, cursor (at + 2 + 4 * count_at s at))
   unfolding code_section
   code_sound at h =
       let head = section_there instruction_size code_section_limit s at (count_at s at) (omega (arith, h.exact)) refl h.head (omega (arith, h.exact, h.few)) (omega (arith, h.exact, h.whole)) in
@@ -47,7 +47,7 @@ module _ (s : List ℕ) (locks variables : ℕ) where
         h.nested,
       ))
 
-  sections_read : (n at m : ℕ) → SoundSections s locks variables n at m → code_sections locks variables s n (cursor at) ≡ fine (m, cursor (length s))
+  sections_read : (n at m : ℕ) → SoundSections s locks variables n at m → code_sections locks variables s n (cursor at) ≡ Ok (m, cursor (length s))
   unfolding code_sections
   sections_read zero at m h = rw (h.0, h.1)
   sections_read (suc n) at m h =
@@ -56,7 +56,7 @@ module _ (s : List ℕ) (locks variables : ℕ) where
       (rw h.2))
 
 module _ (s : List ℕ) (l : Layout) (h : SoundFile s l) where
-  variables_read : variable_section (byte_at s 1) (byte_at s 2) s (cursor 3) ≡ fine (l.variables, cursor (record_offset l.variables))
+  variables_read : variable_section (byte_at s 1) (byte_at s 2) s (cursor 3) ≡ Ok (l.variables, cursor (record_offset l.variables))
   unfolding variable_section
   variables_read =
       let head = section_there variable_size variable_section_limit s 3 l.variables (omega (arith, h.variable_count)) (omega (arith, h.variable_count))
@@ -64,7 +64,7 @@ module _ (s : List ℕ) (l : Layout) (h : SoundFile s l) where
       bind_on (section variable_size variable_section_limit s (cursor 3)) _ head
       (rw (← h.lock_count, ← h.thread_count, first_bad_all (λ p. Variable.is_valid (record_at l.locks l.threads s p)) 6 l.variables records_start h.records))
 
-  fields_read : fields s ≡ fine (l.instructions, cursor (length s))
+  fields_read : fields s ≡ Ok (l.instructions, cursor (length s))
   unfolding fields
   fields_read =
       rw (
@@ -82,7 +82,7 @@ module _ (s : List ℕ) (l : Layout) (h : SoundFile s l) where
         eq-eqb (length s) (length s) refl,
       )
 
-  pub file_sound : reading s ≡ fine l
+  pub file_sound : reading s ≡ Ok l
   unfolding reading
   file_sound =
       let count : pair_at s 3 / 6 ≡ l.variables = omega (arith, h.variable_count) in

@@ -14,7 +14,8 @@ use lib.ListN.{length}
 use lib.Dec.{leb, eqb}
 use native.Mathlib.Omega.{arith}
 use borrow.Author.Tests.{leb-true, eqb-true}
-use Rattle.program.specs.Answer.{fine, ◌>>=◌}
+use Rattle.program.specs.Answer.{◌>>=◌}
+use Rattle.std.specs.Prelude.{Ok}
 use Rattle.program.specs.Field.{byte_at, pair_at, cursor, byte_field}
 use Rattle.program.specs.Variable.{record_at}
 use Rattle.program.specs.Variable
@@ -45,7 +46,7 @@ section_sound locks variables s at d r = record {
 
 -- the code sections that end at the file's end
 pub sections_sound : (locks variables : ℕ) (s : List ℕ) (n : ℕ) (c : Cursor) (m : ℕ) (e : Cursor)
-    → code_sections locks variables s n c ≡ fine (m, e) → e.at ≡ length s → SoundSections s locks variables n c.at m
+    → code_sections locks variables s n c ≡ Ok (m, e) → e.at ≡ length s → SoundSections s locks variables n c.at m
 unfolding code_sections
 sections_sound locks variables s zero c m e h l =
     let values = fine_parts (0, c) (m, e) h in
@@ -77,7 +78,7 @@ pub record FieldsRead (s : List ℕ) (locks threads variables m : ℕ) : Type 0 
   pub sections : SoundSections s locks variables threads (record_offset variables) m
 
 -- from the variable section on
-threads_sound : (s : List ℕ) (locks threads m : ℕ) (e : Cursor) → locks ≤ lock_limit → after_threads s locks (threads, cursor 3) ≡ fine (m, e)
+threads_sound : (s : List ℕ) (locks threads m : ℕ) (e : Cursor) → locks ≤ lock_limit → after_threads s locks (threads, cursor 3) ≡ Ok (m, e)
     → (variables : ℕ) × FieldsRead s locks threads variables m
 threads_sound s locks threads m e k h =
     require_inv (leb 1 threads && leb threads thread_limit) _ _ h λ tests f₁.
@@ -101,7 +102,7 @@ threads_sound s locks threads m e k h =
     )
 
 -- all fields, front to back
-pub fields_sound : (s : List ℕ) (m : ℕ) (e : Cursor) → fields s ≡ fine (m, e)
+pub fields_sound : (s : List ℕ) (m : ℕ) (e : Cursor) → fields s ≡ Ok (m, e)
     → (byte_at s 0 ≡ 1) × ((variables : ℕ) × FieldsRead s (byte_at s 1) (byte_at s 2) variables m)
 unfolding fields
 fields_sound s m e h =
@@ -122,7 +123,7 @@ fields_sound s m e h =
     )
 
 -- of a file that is read as sound
-pub sound_file : (s : List ℕ) (l : Layout) → reading s ≡ fine l → SoundFile s l
+pub sound_file : (s : List ℕ) (l : Layout) → reading s ≡ Ok l → SoundFile s l
 unfolding reading
 sound_file s l h =
     bind_inv (fields s) _ h λ x e answer.

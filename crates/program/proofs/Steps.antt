@@ -6,7 +6,8 @@ use mathlib.Core.Bool.{◌&&◌}
 use mathlib.Core.List.{List}
 use lib.ListN.{length}
 use lib.Dec.{leb, eqb}
-use Rattle.program.specs.Answer.{Answer, fine, ◌>>=◌, require}
+use Rattle.program.specs.Answer.{Answer, ◌>>=◌, require}
+use Rattle.std.specs.Prelude.{Ok}
 use Rattle.program.specs.Field.{byte_field}
 use Rattle.program.specs.Limits.{lock_limit, thread_limit}
 use Rattle.program.specs.Layout.{variable_section, code_sections}
@@ -15,7 +16,7 @@ use Rattle.program.specs.declared.refusal.Refusal.TheVariants.{Version, Count, L
 
 module _ (s : List ℕ) where
   abbrev pub after_sections : ℕ × Cursor → Answer (ℕ × Cursor)
-  after_sections x = require (eqb x.1.at (length s)) (LeftOver x.1.at) (fine (x.0, x.1))
+  after_sections x = require (eqb x.1.at (length s)) (LeftOver x.1.at) (Ok (x.0, x.1))
 
   abbrev pub after_variables : (locks threads : ℕ) → ℕ × Cursor → Answer (ℕ × Cursor)
   after_variables locks threads x = code_sections locks x.0 s threads x.1 >>= after_sections

@@ -14,7 +14,7 @@ use mathlib.Core.Path.{◌≡◌, refl, sym, ap, ◌∙◌}
 use mathlib.Core.List.{List, [], ◌∷◌, ◌++◌, append_assoc, append-nil}
 use lib.ListN.{length}
 use borrow.Author.Tests.{lt-ltb, eq-eqb, ne_eqb}
-use Rattle.program.specs.declared.found.Found.TheVariants.{Nowhere}
+use Rattle.std.specs.Prelude.{None}
 use Rattle.program.specs.declared.instruction.Instruction.{Instruction}
 use Rattle.program.specs.declared.instruction.Instruction.TheVariants.{If, Else, While, Again, Atomic, End}
 use Rattle.program.specs.View.{Plain, form_of}
@@ -108,6 +108,6 @@ scan_flat (block stated a c) p q rest es e w d b =
     ∙ scan_flat c (suc (p + n)) q rest es (omega arith) w.1 (omega arith) b)
 
 -- the whole code, with no entry open
-pub scan_all : (c : Code) → WellFormed c → depth c ≤ entry_limit → first_broken 0 (flat c) [] ≡ Nowhere
+pub scan_all : (c : Code) → WellFormed c → depth c ≤ entry_limit → first_broken 0 (flat c) [] ≡ None
 unfolding first_broken at_code_end Beyond
 scan_all c w d = ap (λ (is : List Instruction). first_broken 0 is []) (sym (append-nil (flat c))) ∙ scan_flat c 0 (size c) [] [] (omega arith) w (omega arith) tt

@@ -11,8 +11,7 @@ use lib.ListN.{length}
 use lib.Dec.{ltb, eqb}
 use borrow.Author.Tests.{ltb-true, eqb-true}
 use Rattle.program.specs.Choice.{choose}
-use Rattle.program.specs.declared.found.Found.{Found}
-use Rattle.program.specs.declared.found.Found.TheVariants.{Nowhere, At}
+use Rattle.std.specs.Prelude.{Option, Some, None}
 use Rattle.program.specs.declared.instruction.Instruction.{Instruction}
 use Rattle.program.specs.declared.instruction.Instruction.TheVariants.{Read, Write, Take, Give, If, Else, While, Again, Atomic, End}
 use Rattle.program.specs.View.{Plain, form_of}
@@ -28,13 +27,13 @@ use Rattle.program.proofs.Seen.{own_plain}
 -- ---- tests
 
 -- broken somewhere is not broken nowhere
-at≢nowhere : {A : Type 0} {p : ℕ} → At p ≡ Nowhere → A
-at≢nowhere e = differ cc
+some≢none : {A : Type 0} {p : ℕ} → Some p ≡ None → A
+some≢none e = differ cc
 
 -- what was tested holds, and the rest passes
-tested : (p : ℕ) (b : Bool) (es : List Entry) (rest : List Entry → Found) → go_on p (choose b (opened es) broken) rest ≡ Nowhere → (b ≡ true) × (rest es ≡ Nowhere)
+tested : (p : ℕ) (b : Bool) (es : List Entry) (rest : List Entry → Option ℕ) → go_on p (choose b (opened es) broken) rest ≡ None → (b ≡ true) × (rest es ≡ None)
 tested p true es rest h = (refl, h)
-tested p false es rest h = at≢nowhere h
+tested p false es rest h = some≢none h
 
 -- ---- turns
 
@@ -45,7 +44,7 @@ module _ (p : ℕ) (is : List Instruction) (es : List Entry) where
   turn_plain i e h = at_plain e (tested p (unnamed p es) es (first_broken (suc p) is) (rw e at h)).1
 
   -- at an opener, whose entry is e
-  turn_open : (n : ℕ) (e : Entry) → go_on p (opening p n e es) (first_broken (suc p) is) ≡ Nowhere → (length es < entry_limit) × Passes (suc p) is (e ∷ es)
+  turn_open : (n : ℕ) (e : Entry) → go_on p (opening p n e es) (first_broken (suc p) is) ≡ None → (length es < entry_limit) × Passes (suc p) is (e ∷ es)
   unfolding opening
   turn_open n e h =
       let t = tested p (unnamed p es && not (eqb n 0) && ltb (length es) entry_limit) (e ∷ es) (first_broken (suc p) is) h in
@@ -53,38 +52,38 @@ module _ (p : ℕ) (is : List Instruction) (es : List Entry) where
 
 module _ (p : ℕ) (is : List Instruction) where
   -- at each closer: of all entries one only passes
-  turn_else : (n : ℕ) (es : List Entry) → go_on p (at_else p n es) (first_broken (suc p) is) ≡ Nowhere → Closes p (Else n ∷ is) es
+  turn_else : (n : ℕ) (es : List Entry) → go_on p (at_else p n es) (first_broken (suc p) is) ≡ None → Closes p (Else n ∷ is) es
   unfolding at_else
-  turn_else n [] h = at≢nowhere h
+  turn_else n [] h = some≢none h
   turn_else n (entry.Then w ∷ es) h =
       let t = tested p (eqb w p && not (eqb n 0)) (entry.Else (p + n) ∷ es) (first_broken (suc p) is) h in
       let e = eqb-true w p ((and-eq-true_iff (eqb w p) (not (eqb n 0))).0 t.0).0 in
       at_else_closer e (rw (← e) at t.1)
-  turn_else n (entry.Else w ∷ es) h = at≢nowhere h
-  turn_else n (entry.Loop w m ∷ es) h = at≢nowhere h
-  turn_else n (entry.Block w ∷ es) h = at≢nowhere h
+  turn_else n (entry.Else w ∷ es) h = some≢none h
+  turn_else n (entry.Loop w m ∷ es) h = some≢none h
+  turn_else n (entry.Block w ∷ es) h = some≢none h
 
-  turn_again : (n : ℕ) (es : List Entry) → go_on p (at_again p n es) (first_broken (suc p) is) ≡ Nowhere → Closes p (Again n ∷ is) es
+  turn_again : (n : ℕ) (es : List Entry) → go_on p (at_again p n es) (first_broken (suc p) is) ≡ None → Closes p (Again n ∷ is) es
   unfolding at_again
-  turn_again n [] h = at≢nowhere h
-  turn_again n (entry.Then w ∷ es) h = at≢nowhere h
-  turn_again n (entry.Else w ∷ es) h = at≢nowhere h
+  turn_again n [] h = some≢none h
+  turn_again n (entry.Then w ∷ es) h = some≢none h
+  turn_again n (entry.Else w ∷ es) h = some≢none h
   turn_again n (entry.Loop w m ∷ es) h =
       let t = tested p (eqb w p && not (eqb n 0) && eqb n m) es (first_broken (suc p) is) h in
       let (first, distances) = (and-eq-true_iff (eqb w p && not (eqb n 0)) (eqb n m)).0 t.0 in
       let e = eqb-true w p ((and-eq-true_iff (eqb w p) (not (eqb n 0))).0 first).0 in
       rw (← (eqb-true n m distances)) (at_again_closer e (rw (← e) at t.1))
-  turn_again n (entry.Block w ∷ es) h = at≢nowhere h
+  turn_again n (entry.Block w ∷ es) h = some≢none h
 
-  turn_end : (es : List Entry) → go_on p (at_end p es) (first_broken (suc p) is) ≡ Nowhere → Closes p (End ∷ is) es
+  turn_end : (es : List Entry) → go_on p (at_end p es) (first_broken (suc p) is) ≡ None → Closes p (End ∷ is) es
   unfolding at_end
-  turn_end [] h = at≢nowhere h
-  turn_end (entry.Then w ∷ es) h = at≢nowhere h
+  turn_end [] h = some≢none h
+  turn_end (entry.Then w ∷ es) h = some≢none h
   turn_end (entry.Else w ∷ es) h =
       let t = tested p (eqb w p) es (first_broken (suc p) is) h in
       let e = eqb-true w p t.0 in
       at_choice_end e (rw (← e) at t.1)
-  turn_end (entry.Loop w m ∷ es) h = at≢nowhere h
+  turn_end (entry.Loop w m ∷ es) h = some≢none h
   turn_end (entry.Block w ∷ es) h =
       let t = tested p (eqb w p) es (first_broken (suc p) is) h in
       let e = eqb-true w p t.0 in
@@ -94,10 +93,10 @@ module _ (p : ℕ) (is : List Instruction) where
 pub comes_to : (p : ℕ) (is : List Instruction) (es : List Entry) → Passes p is es → ComesTo p is es
 unfolding first_broken nest form_of at_code_end
 comes_to p [] [] h = closes at_code_end_closer
-comes_to p [] (e ∷ es) h = at≢nowhere h
+comes_to p [] (e ∷ es) h = some≢none h
 comes_to p (i ∷ is) es h = cases i (seen i) h
   where
-    cases : (i : Instruction) → Seen i → go_on p (nest p (form_of i) es) (first_broken (suc p) is) ≡ Nowhere → ComesTo p (i ∷ is) es
+    cases : (i : Instruction) → Seen i → go_on p (nest p (form_of i) es) (first_broken (suc p) is) ≡ None → ComesTo p (i ∷ is) es
     cases i (seen_local rs e) h = turn_plain p is es i (own_plain i e) h
     cases (Read a v) seen_read h = turn_plain p is es (Read a v) refl h
     cases (Write a v) seen_write h = turn_plain p is es (Write a v) refl h

@@ -21,8 +21,7 @@ use Rattle.program.specs.Internal.Sections.{no_section}
 use Rattle.program.specs.Internal.Seen.{Seen, seen_local, seen_read, seen_write, seen_take, seen_give, seen_if, seen_else, seen_while, seen_again, seen_atomic, seen_end, seen}
 use Rattle.program.specs.Internal.Unstated.{unstated_as, unstated, unstated_code, unstated_section, unstated_program, Stating, nothing, something}
 use Rattle.program.specs.Internal.WellFormed.{flat, WellFormed, depth, Writes}
-use Rattle.program.specs.declared.found.Found.{Found}
-use Rattle.program.specs.declared.found.Found.TheVariants.{Nowhere}
+use Rattle.std.specs.Prelude.{Option, None}
 use Rattle.program.specs.declared.instruction.Instruction.{Instruction}
 use Rattle.program.specs.declared.instruction.Instruction.TheVariants.{Read, Write, Take, Give, If, Else, While, Again, Atomic, End}
 use Rattle.program.specs.declared.nesting.Entry.{Entry}
@@ -75,7 +74,7 @@ plain_unstated i = cases i (stating i)
 
 -- ---- nesting
 
-go_on_alike : (p : ℕ) (x : OpenAfter) (f g : List Entry → Found) → ((es : List Entry) → f es ≡ g es) → go_on p x f ≡ go_on p x g
+go_on_alike : (p : ℕ) (x : OpenAfter) (f g : List Entry → Option ℕ) → ((es : List Entry) → f es ≡ g es) → go_on p x f ≡ go_on p x g
 go_on_alike p broken f g h = refl
 go_on_alike p (opened es) f g h = h es
 
@@ -127,7 +126,7 @@ writes_unstated {c = c} w = record {
   shallow = rw (depth_unstated c) w.shallow;
 }
 
-pub structured_unstated : (is : List Instruction) → first_broken 0 is [] ≡ Nowhere → structured (map unstated is) ≡ unstated_code (structured is)
+pub structured_unstated : (is : List Instruction) → first_broken 0 is [] ≡ None → structured (map unstated is) ≡ unstated_code (structured is)
 structured_unstated is h = sym (writes_structured (writes_unstated (nested_flat is h)))
 
 -- ---- a program

@@ -20,7 +20,7 @@ use lib.Dec.{ltb, eqb}
 use lib.ListN.{length}
 use native.Mathlib.Omega.{arith}
 use borrow.Author.Tests.{eqb-true, eq-eqb, ne_eqb}
-use Rattle.program.specs.Answer.{fine}
+use Rattle.std.specs.Prelude.{Ok}
 use Rattle.program.specs.Choice.{choose}
 use Rattle.program.specs.Field.{byte_at, pair_at}
 use Rattle.program.specs.Instruction.{Decoded, Valid, Invalid, TableRow, table, is_right_row, look_up, decode, decode_at, decoded_instruction}
@@ -318,8 +318,8 @@ module _ (s : List ℕ) (l : Layout) (h : SoundFile s l) where
       )
 
 -- a sound file without its statements is read as it is
-pub file_cleared : (s : List ℕ) (l : Layout) → reading s ≡ fine l
-    → (reading (without_statements s) ≡ fine l) × (program_of (without_statements s) l ≡ unstated_program (program_of s l))
+pub file_cleared : (s : List ℕ) (l : Layout) → reading s ≡ Ok l
+    → (reading (without_statements s) ≡ Ok l) × (program_of (without_statements s) l ≡ unstated_program (program_of s l))
 file_cleared s l e =
     let h = sound_file s l e in
     (file_sound (without_statements s) l (bare_sound s l h), bare_program s l h)

@@ -1,7 +1,7 @@
 -- Fields and sections (the standard, "The file": "Big-endian", "A section is a 2-byte length, then that many bytes"; "Who can bring a
 -- number about": 1, 4).
-use Rattle.std.specs.Prelude.{ℕ, ◌+◌, ◌*◌, ◌/◌, ◌%◌, Bool, ◌&&◌, List, length, get_or, leb, eqb}
-use Rattle.program.specs.Answer.{Answer, fine, ◌>>=◌, ◌>>◌, require}
+use Rattle.std.specs.Prelude.{ℕ, ◌+◌, ◌*◌, ◌/◌, ◌%◌, Bool, ◌&&◌, List, length, get_or, leb, eqb, Ok}
+use Rattle.program.specs.Answer.{Answer, ◌>>=◌, ◌>>◌, require}
 use Rattle.program.specs.declared.cursor.Cursor.{Cursor}
 use Rattle.program.specs.declared.refusal.Refusal.TheVariants.{Missing, Length}
 
@@ -26,13 +26,13 @@ present s c n = leb (c.at + n) (length s)
 unfoldable pub byte_field : List ℕ → Cursor → Answer (ℕ × Cursor)
 byte_field s c = do
   require (present s c 1) (Missing (length s))
-  fine (byte_at s c.at, cursor (c.at + 1))
+  Ok (byte_at s c.at, cursor (c.at + 1))
 
 -- a field of two bytes
 unfoldable pub pair_field : List ℕ → Cursor → Answer (ℕ × Cursor)
 pair_field s c = do
   require (present s c 2) (Missing (length s))
-  fine (pair_at s c.at, cursor (c.at + 2))
+  Ok (pair_at s c.at, cursor (c.at + 2))
 
 -- a section's head: its number of records, and the cursor at the first. "4: a section length that is no multiple of 6 (variables) or
 -- 4 (code), or above 384 or 4,096; tested before the section's bytes"; these are "counted before its first record is read"
@@ -41,4 +41,4 @@ section size limit s c = do
   (n, first) ← pair_field s c
   require (eqb (n % size) 0 && leb n limit) (Length c.at)
   require (present s first n) (Missing (length s))
-  fine (n / size, first)
+  Ok (n / size, first)

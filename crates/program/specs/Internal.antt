@@ -1,10 +1,8 @@
 -- What only proofs and the contracts of inner functions use; no public call's contract cites it.
 --     Bounds       what follows from the limits
---     Answered     what the enums of src/ answer
---     Rows         the rows of the table of op codes by their numbers, and the limits of their fields
+--     Rows         the rows of the table of op codes, by number and by their enum, and the limits of their fields
 --     WellFormed   trees that code is the flat writing of, and their depth
---     Stack        a stack that the code holds in an array
---     Change       the open entries as the code holds them, and what an instruction does to them
+--     Change       what an opener or a closer does to the open entries
 --     Walk         the walk over a code section as one pass
 --     Marks        the table of writers that the walk fills
 --     Seen         what proofs ask of each instruction: its view, and the registers that it names
@@ -12,10 +10,8 @@
 --     Sections     the table of sections
 --     Unstated     instructions, codes and programs with their statements taken out
 pub mod Bounds
-pub mod Answered
 pub mod Rows
 pub mod WellFormed
-pub mod Stack
 pub mod Change
 pub mod Walk
 pub mod Marks

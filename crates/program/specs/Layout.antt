@@ -1,7 +1,7 @@
 -- The whole file, front to back (the standard, "The file"; "Who can bring a number about": the sender's part), and what a sound file
 -- holds.
-use Rattle.std.specs.Prelude.{ℕ, zero, suc, ◌+◌, ◌*◌, ◌/◌, ◌&&◌, List, [], ◌∷◌, length, get_or, leb, eqb}
-use Rattle.program.specs.Answer.{Answer, fine, ◌>>=◌, ◌>>◌, require, require_none}
+use Rattle.std.specs.Prelude.{ℕ, zero, suc, ◌+◌, ◌*◌, ◌/◌, ◌&&◌, List, [], ◌∷◌, length, get_or, leb, eqb, Option, Some, None, Ok}
+use Rattle.program.specs.Answer.{Answer, ◌>>=◌, ◌>>◌, require, require_none}
 use Rattle.program.specs.Choice.{first_bad}
 use Rattle.program.specs.Field.{cursor, byte_at, pair_at, byte_field, section}
 use Rattle.program.specs.Variable.{Variable, record_at, variable_at}
@@ -11,8 +11,6 @@ use Rattle.program.specs.Instruction
 use Rattle.program.specs.Limits.{lock_limit, thread_limit, variable_size, instruction_size, variable_section_limit, code_section_limit, records_start, record_offset}
 use Rattle.program.specs.Nesting.{first_broken}
 use Rattle.program.specs.declared.cursor.Cursor.{Cursor}
-use Rattle.program.specs.declared.found.Found.{Found}
-use Rattle.program.specs.declared.found.Found.TheVariants.{Nowhere, At}
 use Rattle.program.specs.declared.instruction.Instruction.{Instruction}
 use Rattle.program.specs.declared.layout.Layout.{Layout}
 use Rattle.program.specs.declared.refusal.Refusal.TheVariants.{Version, Count, LeftOver, Record, Nesting}
@@ -70,12 +68,12 @@ unfoldable pub variable_section : (locks threads : ℕ) → List ℕ → Cursor 
 variable_section locks threads s c = do
   (n, first) ← section variable_size variable_section_limit s c
   require_none (first_bad (λ at. Variable.is_valid (record_at locks threads s at)) variable_size n first.at) Record
-  fine (n, cursor (first.at + variable_size * n))
+  Ok (n, cursor (first.at + variable_size * n))
 
 -- where nesting is first broken, as an offset: an entry open at the code's end has the section's end
-abbrev pub offset_from : ℕ → Found → Found
-offset_from start Nowhere = Nowhere
-offset_from start (At p) = At (start + instruction_size * p)
+abbrev pub offset_from : ℕ → Option ℕ → Option ℕ
+offset_from start None = None
+offset_from start (Some p) = Some (start + instruction_size * p)
 
 -- a code section: length (1, 4, 1), then the instructions in order (7), then "nesting, after all 7s of that thread" (8)
 unfoldable pub code_section : (locks variables : ℕ) → List ℕ → Cursor → Answer (ℕ × Cursor)
@@ -83,15 +81,15 @@ code_section locks variables s c = do
   (n, first) ← section instruction_size code_section_limit s c
   require_none (first_bad (λ at. Instruction.is_valid (decode_at locks variables s at)) instruction_size n first.at) refusal.Instruction
   require_none (offset_from first.at (first_broken 0 (instructions_at locks variables s n first.at) [])) Nesting
-  fine (n, cursor (first.at + instruction_size * n))
+  Ok (n, cursor (first.at + instruction_size * n))
 
 -- the code sections of n threads: how many instructions they have together
 unfoldable pub code_sections : (locks variables : ℕ) → List ℕ → ℕ → Cursor → Answer (ℕ × Cursor)
-code_sections locks variables s zero c = fine (0, c)
+code_sections locks variables s zero c = Ok (0, c)
 code_sections locks variables s (suc n) c = do
   (count, d) ← code_section locks variables s c
   (rest, e) ← code_sections locks variables s n d
-  fine (count + rest, e)
+  Ok (count + rest, e)
 
 -- "read front to back, first offence deciding"
 unfoldable pub fields : List ℕ → Answer (ℕ × Cursor)
@@ -105,10 +103,10 @@ fields s = do
   (variables, c₄) ← variable_section locks threads s c₃
   (instructions, c₅) ← code_sections locks variables s threads c₄
   require (eqb c₅.at (length s)) (LeftOver c₅.at)
-  fine (instructions, c₅)
+  Ok (instructions, c₅)
 
 -- "A file with none of these offences is sound"
 unfoldable pub reading : List ℕ → Answer Layout
 reading s = do
   (instructions, end) ← fields s
-  fine (record { locks = byte_at s 1; threads = byte_at s 2; variables = pair_at s 3 / variable_size; instructions = instructions })
+  Ok (record { locks = byte_at s 1; threads = byte_at s 2; variables = pair_at s 3 / variable_size; instructions = instructions })

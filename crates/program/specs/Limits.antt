@@ -1,5 +1,6 @@
 -- Limits and sizes (the standard, "Limits", "The file", "The report", "The step machine", "Line and bench", "Who can bring a number
--- about"), in its order, each with the sentence that sets it: no other definition or contract writes these numbers. They are abbreviations, so a proof sees the number. src/limits.rt has the same names for code.
+-- about"), in its order, each with the sentence that sets it: no other definition or contract writes these numbers. They are
+-- abbreviations, so a proof sees the number. src/limits.rt has the same names for code.
 use Rattle.std.specs.Prelude.{ℕ, ◌+◌, ◌*◌}
 
 -- The file

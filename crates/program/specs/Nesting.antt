@@ -1,11 +1,9 @@
 -- Nesting (the standard, "The file": from "A place is an instruction's index in its thread" on), as a scan with the open entries,
 -- innermost first.
-use Rattle.std.specs.Prelude.{ℕ, suc, ◌+◌, Bool, true, ◌&&◌, not, List, [], ◌∷◌, length, ltb, eqb}
+use Rattle.std.specs.Prelude.{ℕ, suc, ◌+◌, Bool, true, ◌&&◌, not, List, [], ◌∷◌, length, ltb, eqb, Option, Some, None}
 use Rattle.program.specs.Choice.{choose}
 use Rattle.program.specs.View.{form_of, Form, Plain, If, Else, While, Again, Atomic, End}
 use Rattle.program.specs.Limits.{entry_limit}
-use Rattle.program.specs.declared.found.Found.{Found}
-use Rattle.program.specs.declared.found.Found.TheVariants.{Nowhere, At}
 use Rattle.program.specs.declared.instruction.Instruction.{Instruction}
 use Rattle.program.specs.declared.nesting.Entry.{Entry}
 use Rattle.program.specs.declared.nesting.Entry.TheVariants.{Then, Loop, Block}
@@ -70,15 +68,15 @@ nest p (Atomic n) es = opening p n (Block (p + n)) es
 nest p End es = at_end p es
 
 -- "It is also broken at the code's end if an entry is open"
-unfoldable pub at_code_end : ℕ → List Entry → Found
-at_code_end p [] = Nowhere
-at_code_end p (e ∷ es) = At p
+unfoldable pub at_code_end : ℕ → List Entry → Option ℕ
+at_code_end p [] = None
+at_code_end p (e ∷ es) = Some p
 
-abbrev pub go_on : ℕ → OpenAfter → (List Entry → Found) → Found
-go_on p broken rest = At p
+abbrev pub go_on : ℕ → OpenAfter → (List Entry → Option ℕ) → Option ℕ
+go_on p broken rest = Some p
 go_on p (opened es) rest = rest es
 
 -- the first place from p on where nesting is broken
-unfoldable pub first_broken : ℕ → List Instruction → List Entry → Found
+unfoldable pub first_broken : ℕ → List Instruction → List Entry → Option ℕ
 first_broken p [] es = at_code_end p es
 first_broken p (i ∷ is) es = go_on p (nest p (form_of i) es) (first_broken (suc p) is)

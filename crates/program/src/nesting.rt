@@ -1,10 +1,12 @@
 // Nesting (the standard, "The file": from "A place is an instruction's index in its thread" on): a scan with a stack of open entries.
-ghost use Rattle.std.specs.Prelude.{◌≡◌, List, ℕ, ◌+◌, ◌*◌, ◌^◌, ◌<◌, length, eqb};
+ghost use Rattle.std.specs.Prelude.{◌≡◌, ℕ, ◌+◌, ◌*◌, ◌^◌, ◌<◌, true, eqb};
 ghost use Rattle.program.specs.Nesting.{opening, at_else, at_again, at_end, nest};
 ghost use Rattle.program.specs.Nesting as Nesting;
-ghost use Rattle.program.specs.Internal.Change.{is_then, is_loop_of, is_last, row_form, Innermost, Fulfils};
+ghost use Rattle.program.specs.Internal.Change.{changed, innermost_place, Fulfils, Room};
+ghost use Rattle.program.specs.Internal.Rows.{row_form};
 
-use crate::limits::ENTRY_LIMIT;
+use crate::instruction::Row;
+use crate::stack::Stack;
 
 // The entries that openers open. Each names the place of its closer.
 #[derive(Clone, Copy)]
@@ -19,6 +21,18 @@ pub enum Entry {
     Block(usize),
 }
 
+impl Entry {
+    // The place that it names.
+    #[tactic(auto, unfolding(crate::specs::Nesting::named))]
+    pub fn named(self) -> usize
+        ensures { result ≡ Nesting.named self }
+    {
+        match self {
+            Entry::Then(w) | Entry::Else(w) | Entry::Loop(w, _) | Entry::Block(w) => w,
+        }
+    }
+}
+
 // What a well nested opener or closer does to the open entries.
 #[derive(Clone, Copy)]
 pub enum Change {
@@ -27,25 +41,16 @@ pub enum Change {
     Pop,
 }
 
-// Nesting is broken at an instruction, or it goes on.
-#[derive(Clone, Copy)]
-pub enum Turn {
-    Broken,
-    Goes(Change),
-}
-
-// No place: more than any that an entry can name.
-pub const NOWHERE: usize = 1048576;
-
-// The place that an entry names.
-pub fn named(e: Entry) -> usize
-    ensures { result ≡ Nesting.named e }
-{
-    match e {
-        Entry::Then(w) => w,
-        Entry::Else(w) => w,
-        Entry::Loop(w, _) => w,
-        Entry::Block(w) => w,
+impl Change {
+    pub fn make(self, entries: &mut Stack<Entry>)
+        requires { Room self entries.old }
+        ensures { entries.new ≡ changed self entries.old }
+    {
+        match self {
+            Change::Push(e) => entries.push(e),
+            Change::Replace(e) => entries.replace_top(e),
+            Change::Pop => entries.pop(),
+        }
     }
 }
 
@@ -53,96 +58,87 @@ pub fn named(e: Entry) -> usize
 pub fn distance(b: u8, c: u8) -> usize
     ensures { (result ≡ b * 256 + c) × (result < 65536) }
 {
-    (b as usize) * 256 + (c as usize)
+    usize::from(u16::from_be_bytes([b, c]))
 }
 
-fn is_then(e: Entry) -> bool
-    ensures { result ≡ is_then e }
+// The place that the innermost entry names; where none is open, the code's end, at which no instruction stands.
+pub fn innermost_place(entries: &Stack<Entry>, end: usize) -> usize
+    ensures { result ≡ innermost_place end entries.now }
 {
-    match e {
-        Entry::Then(_) => true,
-        Entry::Else(_) => false,
-        Entry::Loop(_, _) => false,
-        Entry::Block(_) => false,
+    match entries.top() {
+        Some(e) => e.named(),
+        None => end,
     }
 }
 
-fn is_loop_of(n: usize, e: Entry) -> bool
-    ensures { result ≡ is_loop_of n e }
-{
-    match e {
-        Entry::Then(_) => false,
-        Entry::Else(_) => false,
-        Entry::Loop(_, m) => n == m,
-        Entry::Block(_) => false,
-    }
-}
-
-// Whether END closes an entry.
-fn is_last(e: Entry) -> bool
-    ensures { result ≡ is_last e }
-{
-    match e {
-        Entry::Then(_) => false,
-        Entry::Else(_) => true,
-        Entry::Loop(_, _) => false,
-        Entry::Block(_) => true,
-    }
-}
+// The four functions below and change_at speak of an opener or a closer at place p with distance n. `here` says whether the innermost entry
+// names p: the walk keeps the named place in a number, and says there why. So each contract has as a premise that `here` is that test, for any
+// end of the code after p.
 
 // IF, WHILE and ATOMIC: "another instruction stands at the innermost named place", "a distance is 0", "a 17th entry opens".
-fn at_opener(unnamed: bool, n: usize, e: Entry, depth: usize) -> Turn
-    ensures { (p : ℕ) (es : List Entry) → Nesting.unnamed p es ≡ unnamed → length es ≡ depth → Fulfils result es (opening p n e es) }
+#[tactic(auto, unfolding(crate::specs::Nesting::opening), using(crate::proofs::Scan::place_unnamed))]
+fn at_opener(p: usize, here: bool, n: usize, e: Entry, entries: &Stack<Entry>) -> Option<Change>
+    ensures { (end : ℕ) → p < end → here ≡ eqb (innermost_place end entries.now) p
+        → Fulfils result entries.now (opening p n e entries.now) }
 {
-    if unnamed & (n != 0) & (depth < ENTRY_LIMIT) {
-        return Turn::Goes(Change::Push(e));
+    if !here & (n != 0) & entries.has_room() {
+        return Some(Change::Push(e));
     }
-    Turn::Broken
+    None
 }
 
 // "ELSE must stand at the place its IF named and puts the place of its END there instead."
-fn at_else(here: bool, p: usize, n: usize, e: Entry) -> Turn
+#[tactic(auto, unfolding(crate::specs::Nesting::at_else, crate::specs::Nesting::named))]
+fn at_else(p: usize, here: bool, n: usize, entries: &Stack<Entry>) -> Option<Change>
     requires { (p < 2 ^ 62) × (n < 65536) }
-    ensures { (es : List Entry) → Innermost p here e es → Fulfils result es (at_else p n es) }
+    ensures { (end : ℕ) → p < end → here ≡ eqb (innermost_place end entries.now) p
+        → Fulfils result entries.now (at_else p n entries.now) }
 {
-    if is_then(e) & here & (n != 0) {
-        return Turn::Goes(Change::Replace(Entry::Else(p + n)));
+    match entries.top() {
+        Some(Entry::Then(_)) if here & (n != 0) => Some(Change::Replace(Entry::Else(p + n))),
+        _ => None,
     }
-    Turn::Broken
 }
 
-// "AGAIN's n differs from its WHILE's".
-fn at_again(here: bool, n: usize, e: Entry) -> Turn
-    ensures { (p : ℕ) (es : List Entry) → Innermost p here e es → Fulfils result es (at_again p n es) }
+// "AGAIN's n differs from its WHILE's". (at_again and at_end differ in little and stay two: there is one for each sentence of the standard, and
+// each has its own test.)
+#[tactic(auto, unfolding(crate::specs::Nesting::at_again, crate::specs::Nesting::named))]
+fn at_again(here: bool, n: usize, entries: &Stack<Entry>) -> Option<Change>
+    ensures { (p end : ℕ) → p < end → here ≡ eqb (innermost_place end entries.now) p
+        → Fulfils result entries.now (at_again p n entries.now) }
 {
-    if here & (n != 0) & is_loop_of(n, e) {
-        return Turn::Goes(Change::Pop);
+    match entries.top() {
+        Some(Entry::Loop(_, m)) if here & (n != 0) & (n == m) => Some(Change::Pop),
+        _ => None,
     }
-    Turn::Broken
 }
 
 // The closer of an ELSE or an ATOMIC.
-fn at_end(here: bool, e: Entry) -> Turn
-    ensures { (p : ℕ) (es : List Entry) → Innermost p here e es → Fulfils result es (at_end p es) }
+#[tactic(auto, unfolding(crate::specs::Nesting::at_end, crate::specs::Nesting::named))]
+fn at_end(here: bool, entries: &Stack<Entry>) -> Option<Change>
+    ensures { (p end : ℕ) → p < end → here ≡ eqb (innermost_place end entries.now) p
+        → Fulfils result entries.now (at_end p entries.now) }
 {
-    if is_last(e) & here {
-        return Turn::Goes(Change::Pop);
+    match entries.top() {
+        Some(Entry::Else(_) | Entry::Block(_)) if here => Some(Change::Pop),
+        _ => None,
     }
-    Turn::Broken
 }
 
-// What the opener or closer of a row does at place p, where e is the innermost open entry, if there is one, and `place` what it names.
-pub fn turn_at(p: usize, row: u8, n: usize, place: usize, e: Entry, depth: usize) -> Turn
+// What the opener or closer of a row with distance n does at place p, where `here` says whether the innermost entry names it; none: nesting
+// is broken there.
+#[tactic(auto, unfolding(crate::specs::Nesting::nest, crate::specs::View::form_of))]
+pub fn change_at(p: usize, here: bool, row: Row, n: usize, entries: &Stack<Entry>) -> Option<Change>
     requires { (p < 2 ^ 62) × (n < 65536) }
-    ensures { (a : ℕ) (es : List Entry) → Innermost p (eqb place p) e es → length es ≡ depth → Fulfils result es (nest p (row_form row a n) es) }
+    ensures { (a end : ℕ) → p < end → here ≡ eqb (innermost_place end entries.now) p
+        → Fulfils result entries.now (nest p (row_form row a n) entries.now) }
 {
-    let here = place == p;
     match row {
-        10 => at_opener(!here, n, Entry::Then(p + n), depth),
-        11 => at_else(here, p, n, e),
-        12 => at_opener(!here, n, Entry::Loop(p + n, n), depth),
-        13 => at_again(here, n, e),
-        14 => at_opener(!here, n, Entry::Block(p + n), depth),
-        _ => at_end(here, e),
+        Row::If => at_opener(p, here, n, Entry::Then(p + n), entries),
+        Row::Else => at_else(p, here, n, entries),
+        Row::While => at_opener(p, here, n, Entry::Loop(p + n, n), entries),
+        Row::Again => at_again(here, n, entries),
+        Row::Atomic => at_opener(p, here, n, Entry::Block(p + n), entries),
+        _ => at_end(here, entries),
     }
 }

@@ -2,7 +2,7 @@
 ghost use Rattle.std.specs.Prelude.{◌≡◌, ◌<◌};
 ghost use Rattle.program.specs.Refusal.{detail_of, number_of};
 
-#[derive(Clone, Copy)]
+#[derive(Clone, Copy, PartialEq, Eq)]
 pub enum Refusal {
     // 1: bytes of a field or section missing.
     Missing(usize),
@@ -42,55 +42,57 @@ pub enum Refusal {
     FalseStatement(usize),
 }
 
-// Its number.
-pub fn number(r: Refusal) -> usize
-    ensures value { result ≡ number_of r }
-    ensures upper_bound { result < 19 }
-{
-    match r {
-        Refusal::Missing(_) => 1,
-        Refusal::Version(_) => 2,
-        Refusal::Count(_) => 3,
-        Refusal::Length(_) => 4,
-        Refusal::LeftOver(_) => 5,
-        Refusal::Record(_) => 6,
-        Refusal::Instruction(_) => 7,
-        Refusal::Nesting(_) => 8,
-        Refusal::Access(_) => 9,
-        Refusal::Taken(_) => 10,
-        Refusal::NotTaken(_) => 11,
-        Refusal::SetsDiffer(_) => 12,
-        Refusal::NotAtomic(_) => 13,
-        Refusal::LongList(_) => 14,
-        Refusal::ThreadNumber(_) => 15,
-        Refusal::ShortBuffer(_) => 16,
-        Refusal::LineNumber(_) => 17,
-        Refusal::FalseStatement(_) => 18,
+impl Refusal {
+    // Its number: no cast, since the variants hold details; one arm for each row of the standard's table.
+    pub fn number(self) -> usize
+        ensures value { result ≡ number_of self }
+        ensures upper_bound { result < 19 }
+    {
+        match self {
+            Refusal::Missing(_) => 1,
+            Refusal::Version(_) => 2,
+            Refusal::Count(_) => 3,
+            Refusal::Length(_) => 4,
+            Refusal::LeftOver(_) => 5,
+            Refusal::Record(_) => 6,
+            Refusal::Instruction(_) => 7,
+            Refusal::Nesting(_) => 8,
+            Refusal::Access(_) => 9,
+            Refusal::Taken(_) => 10,
+            Refusal::NotTaken(_) => 11,
+            Refusal::SetsDiffer(_) => 12,
+            Refusal::NotAtomic(_) => 13,
+            Refusal::LongList(_) => 14,
+            Refusal::ThreadNumber(_) => 15,
+            Refusal::ShortBuffer(_) => 16,
+            Refusal::LineNumber(_) => 17,
+            Refusal::FalseStatement(_) => 18,
+        }
     }
-}
 
-// Its detail D.
-pub fn detail(r: Refusal) -> usize
-    ensures { result ≡ detail_of r }
-{
-    match r {
-        Refusal::Missing(d) => d,
-        Refusal::Version(d) => d,
-        Refusal::Count(d) => d,
-        Refusal::Length(d) => d,
-        Refusal::LeftOver(d) => d,
-        Refusal::Record(d) => d,
-        Refusal::Instruction(d) => d,
-        Refusal::Nesting(d) => d,
-        Refusal::Access(d) => d,
-        Refusal::Taken(d) => d,
-        Refusal::NotTaken(d) => d,
-        Refusal::SetsDiffer(d) => d,
-        Refusal::NotAtomic(d) => d,
-        Refusal::LongList(d) => d,
-        Refusal::ThreadNumber(d) => d,
-        Refusal::ShortBuffer(d) => d,
-        Refusal::LineNumber(d) => d,
-        Refusal::FalseStatement(d) => d,
+    // Its detail D.
+    pub fn detail(self) -> usize
+        ensures { result ≡ detail_of self }
+    {
+        match self {
+            Refusal::Missing(d)
+            | Refusal::Version(d)
+            | Refusal::Count(d)
+            | Refusal::Length(d)
+            | Refusal::LeftOver(d)
+            | Refusal::Record(d)
+            | Refusal::Instruction(d)
+            | Refusal::Nesting(d)
+            | Refusal::Access(d)
+            | Refusal::Taken(d)
+            | Refusal::NotTaken(d)
+            | Refusal::SetsDiffer(d)
+            | Refusal::NotAtomic(d)
+            | Refusal::LongList(d)
+            | Refusal::ThreadNumber(d)
+            | Refusal::ShortBuffer(d)
+            | Refusal::LineNumber(d)
+            | Refusal::FalseStatement(d) => d,
+        }
     }
 }

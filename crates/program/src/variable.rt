@@ -1,16 +1,15 @@
 // A variable record's kind (the standard, "The file": "Kinds").
 ghost use Rattle.std.specs.Prelude.{◌≡◌, ◌+◌, ◌*◌, ◌≤◌, length};
-ghost use Rattle.program.specs.Choice.{choose, first_bad};
+ghost use Rattle.program.specs.Choice.{first_bad};
 ghost use Rattle.program.specs.Field.{word_at};
 ghost use Rattle.program.specs.Limits.{variable_size};
 ghost use Rattle.program.specs.Variable.{record_at, kind_of};
 ghost use Rattle.program.specs.Variable as Variable;
 
-use crate::cursor::pair_at;
-use crate::found::Found;
 use crate::limits::VARIABLE_SIZE;
+use crate::offence::first_bad;
 
-#[derive(Clone, Copy)]
+#[derive(Clone, Copy, PartialEq, Eq)]
 pub enum Kind {
     // Guarded by the lock.
     Guarded(u8),
@@ -22,36 +21,23 @@ pub enum Kind {
     Open,
 }
 
-// What the kind and g bytes of a record say.
-#[derive(Clone, Copy)]
-pub enum Recorded {
-    Valid(Kind),
-    Invalid,
-}
-
-fn checked(good: bool, k: Kind) -> Recorded
-    ensures { result ≡ choose good (Recorded.Valid k) Recorded.Invalid }
-{
-    if good {
-        return Recorded::Valid(k);
-    }
-    Recorded::Invalid
-}
-
-pub fn record_of(locks: usize, threads: usize, kind: u8, g: u8) -> Recorded
+// What the kind and g bytes of a record say, if it is valid.
+#[tactic(auto, unfolding(crate::specs::Variable::recorded))]
+pub fn record_of(locks: usize, threads: usize, kind: u8, g: u8) -> Option<Kind>
     ensures { result ≡ Variable.recorded locks threads kind g }
 {
     match kind {
-        0 => checked((g as usize) < locks, Kind::Guarded(g)),
-        1 => checked((g as usize) < threads, Kind::Own(g)),
-        2 => checked(g == 0, Kind::Fixed),
-        3 => checked(g == 0, Kind::Open),
-        _ => Recorded::Invalid,
+        0 => (usize::from(g) < locks).then_some(Kind::Guarded(g)),
+        1 => (usize::from(g) < threads).then_some(Kind::Own(g)),
+        2 => (g == 0).then_some(Kind::Fixed),
+        3 => (g == 0).then_some(Kind::Open),
+        _ => None,
     }
 }
 
-// The record at an offset.
-pub fn record_at(s: &[u8], at: usize, locks: usize, threads: usize) -> Recorded
+// The record at an offset: into the whole file, since that is what a refusal tells. The counts come alone, before there is a Layout.
+#[tactic(auto, unfolding(crate::specs::Variable::record_at))]
+pub fn record_at(s: &[u8], at: usize, locks: usize, threads: usize) -> Option<Kind>
     requires { at + variable_size ≤ length s.now }
     ensures { result ≡ record_at locks threads s.now at }
 {
@@ -63,10 +49,7 @@ pub fn kind_at(s: &[u8], at: usize, locks: usize, threads: usize) -> Kind
     requires { at + variable_size ≤ length s.now }
     ensures { result ≡ kind_of (record_at locks threads s.now at) }
 {
-    let Recorded::Valid(k) = record_at(s, at, locks, threads) else {
-        return Kind::Open;
-    };
-    k
+    record_at(s, at, locks, threads).unwrap_or(Kind::Open)
 }
 
 // Its initial value.
@@ -74,24 +57,32 @@ pub fn initial_at(s: &[u8], at: usize) -> u32
     requires { at + variable_size ≤ length s.now }
     ensures { result ≡ word_at s.now (at + 2) }
 {
-    let first = at + 2;
-    (pair_at(s, first) as u32) * 65536 + (pair_at(s, first + 2) as u32)
+    u32::from_be_bytes([s[at + 2], s[at + 3], s[at + 4], s[at + 5]])
+}
+
+// Whether it is valid.
+fn is_valid_record(s: &[u8], at: usize, locks: usize, threads: usize) -> bool
+    requires { at + variable_size ≤ length s.now }
+    ensures { result ≡ Variable.is_valid (record_at locks threads s.now at) }
+{
+    record_at(s, at, locks, threads).is_some()
 }
 
 // The first of n records from an offset on that is not valid.
-pub fn first_bad_record(s: &[u8], start: usize, n: usize, locks: usize, threads: usize) -> Found
+pub fn first_bad_record(
+    s: &[u8],
+    start: usize,
+    n: usize,
+    locks: usize,
+    threads: usize,
+) -> Option<usize>
     requires { start + variable_size * n ≤ length s.now }
     ensures { result ≡ first_bad (λ p. Variable.is_valid (record_at locks threads s.now p)) variable_size n start }
 {
-    let mut at = start;
-    let mut left = n;
-    while 0 < left {
-        let r = record_at(s, at, locks, threads);
-        let Recorded::Valid(_) = r else {
-            return Found::At(at);
-        };
-        at += VARIABLE_SIZE;
-        left -= 1;
-    }
-    Found::Nowhere
+    first_bad(
+        |at| is_valid_record(s, at, locks, threads),
+        start,
+        VARIABLE_SIZE,
+        n,
+    )
 }

@@ -4,11 +4,9 @@
 --     permuted_all     a property of each move is preserved
 --     permuted_order   so is the blocks' order
 --     permuted_moves   ... each thread's moves
-use Prim.Native.Nat.{ℕ}
-use native.Mathlib.Decide.{ℕ_discrete}
-use mathlib.Core.Path.{◌≡◌, refl, sym, ap, ◌∙◌}
-use mathlib.Core.Logic.{◌≢◌, ite}
-use mathlib.Core.List.{List, [], ◌∷◌, ◌++◌}
+use Rattle.std.proofs.Common.{ℕ, ◌≡◌, refl, sym, ap, ◌∙◌, ◌≢◌, List, [], ◌∷◌, ◌++◌}
+use Rattle.std.proofs.Math.Decide.{ℕ_discrete}
+use Rattle.std.proofs.Math.Logic.{ite}
 use Rattle.reduction.specs.Sequence.{All, all_nil, all_cons, pairs_cons}
 use Rattle.reduction.specs.Moves.{Moves}
 use Rattle.reduction.specs.Reduction.{moves_of, Ordered}

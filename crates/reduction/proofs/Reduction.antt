@@ -2,8 +2,7 @@
 --     reduction             a trace that begins and ends with everybody outside can be made uninterrupted
 --     uninterrupted_trace   an uninterrupted trace is a trace
 --     same_precedence       a block that is over when another begins still is
-use mathlib.Core.Path.{◌≡◌}
-use mathlib.Core.List.{List}
+use Rattle.std.proofs.Common.{◌≡◌, List}
 use Rattle.reduction.specs.Moves.{Moves, Movers}
 use Rattle.reduction.specs.Reduction.{Trace, trace_nil, trace_cons, Quiescent, Uninterrupted, alone_nil, alone_cons, Precedes, Reduced}
 use Rattle.reduction.proofs.Sequence.{pairs_of}

@@ -4,7 +4,7 @@
 --     all_behind, pairs_behind    the part behind
 --     all_before, pairs_before    the part before
 --     all_of, pairs_of            where everything has it, or is related
-use mathlib.Core.List.{List, [], ◌∷◌, ◌++◌}
+use Rattle.std.proofs.Common.{List, [], ◌∷◌, ◌++◌}
 use Rattle.reduction.specs.Sequence.{All, all_nil, all_cons, AllPairs, pairs_nil, pairs_cons}
 
 module _ {A : Type 0} where

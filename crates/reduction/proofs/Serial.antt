@@ -5,12 +5,9 @@
 -- how a rest after the commit is pulled in front of another thread's move or rest; the same over a serial trace; one move at
 -- a time, from the back of the trace to its front.
 -- Assumes nothing.
-use Prim.Native.Nat.{ℕ}
-use native.Mathlib.Decide.{ℕ_discrete}
-use native.Mathlib.Omega.{arith}
-use mathlib.Core.Path.{◌≡◌, refl, sym, ◌∙◌, subst}
-use mathlib.Core.Logic.{◌≢◌, Ne-symm, dite}
-use mathlib.Core.List.{List, [], ◌∷◌, ◌++◌}
+use Rattle.std.proofs.Common.{ℕ, arith, ◌≡◌, refl, sym, ◌∙◌, subst, ◌≢◌, List, [], ◌∷◌, ◌++◌}
+use Rattle.std.proofs.Math.Decide.{ℕ_discrete}
+use Rattle.std.proofs.Math.Logic.{Ne-symm, dite}
 use Rattle.reduction.specs.Sequence.{All, all_nil, all_cons}
 use Rattle.reduction.specs.Moves.{Moves, Movers, Status, outside, before_commit, after_commit, Unmoved}
 use Rattle.reduction.specs.Reduction.{Trace, trace_nil, trace_cons, Quiescent, Uninterrupted, alone_nil, alone_cons, Ordered}

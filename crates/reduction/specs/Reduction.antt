@@ -1,8 +1,8 @@
 -- What reduction gives for a trace that begins and ends with everybody outside: an uninterrupted one between the same two
 -- states, with the same moves of each thread, in which no two blocks come in a new order (`Reduced`).
-use Rattle.std.specs.Prelude.{ℕ, ◌≡◌, ◌≢◌}
+use Rattle.std.specs.Prelude.{ℕ, ◌≡◌, ◌≢◌, List, [], ◌∷◌}
+use mathlib.Core.List.{filter}
 use Rattle.std.proofs.Math.Decide.{ℕ_discrete}
-use mathlib.Core.List.{List, [], ◌∷◌, filter}
 use Rattle.reduction.specs.Sequence.{AllPairs}
 use Rattle.reduction.specs.Moves.{Moves, outside}
 

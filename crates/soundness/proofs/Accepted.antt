@@ -1,20 +1,15 @@
 -- What an accepted file's program is: each thread's code is well nested and names only locks and variables that there are
 -- (`sound_nested`), and is typed, so annotated (`judged_annotated`). Assumes nothing.
-use Prim.Native.Nat.{ℕ, zero, suc, ◌+◌, ◌*◌, ◌≤◌, ◌<◌}
-use native.Mathlib.Decide.{dec_lt}
-use native.Mathlib.Nat.{add-zero, zero-add}
-use native.Mathlib.Omega.{arith}
-use mathlib.Core.Path.{◌≡◌, refl, sym, subst}
-use mathlib.Core.Logic.{dite}
-use mathlib.Core.List.{List, [], ◌∷◌}
-use lib.ListN.{length, get_or, get_or-eq_default}
+use Rattle.std.proofs.Common.{ℕ, zero, suc, ◌+◌, ◌*◌, ◌≤◌, ◌<◌, add-zero, zero-add, arith, ◌≡◌, refl, sym, subst, List, [], ◌∷◌, length, get_or, Ok}
+use Rattle.std.proofs.Math.Decide.{dec_lt}
+use Rattle.std.proofs.Math.Logic.{dite}
+use Rattle.std.proofs.Math.ListN.{get_or-eq_default}
 use Rattle.judge.specs.Judging.{judge, judge_code, judge_codes, judge_program}
 use Rattle.judge.specs.LockSet.{empty}
 use Rattle.program.specs.View.{access_of}
 use Rattle.program.proofs.Contents.{length-instructions, get_or-instructions, length-variables}
 use Rattle.program.proofs.Decode.{instruction_access}
 use Rattle.program.proofs.Structure.{nested_flat}
-use Rattle.program.specs.Answer.{fine}
 use Rattle.program.specs.Code.{structure, structured}
 use Rattle.program.specs.Layout.{Program, CodeSection, program_of, instructions_at, codes_at, code_of}
 use Rattle.program.specs.Limits.{records_start, record_offset}
@@ -79,13 +74,13 @@ unfolding structured structure
 derived_nothing p t = (_, _, typed_done)
 
 derived_code : (p : Program) (t : ℕ) (section : CodeSection) {r : List ℕ} → WellFormed (structured section.code)
-    → judge_code p t section ≡ fine r → Derived p t section.code
+    → judge_code p t section ≡ Ok r → Derived p t section.code
 unfolding judge_code
 derived_code p t section w e =
     bind_inv (judge p t section.start empty (structured section.code)) _ e λ r f g.
     (r.locks, r.atomicity, judge_typed p t (structured section.code) w section.start empty f)
 
-derived_codes : (p : Program) (n : ℕ) (l : List CodeSection) {r : List ℕ} → judge_codes p n l ≡ fine r
+derived_codes : (p : Program) (n : ℕ) (l : List CodeSection) {r : List ℕ} → judge_codes p n l ≡ Ok r
     → (t : ℕ) → WellFormed (structured (get_or l t no_section).code) → Derived p (n + t) (get_or l t no_section).code
 unfolding judge_codes
 derived_codes p n [] e t w = derived_nothing p (n + t)
@@ -97,12 +92,12 @@ derived_codes p n (x ∷ l) e (suc t) w =
     bind_inv (judge_codes p (suc n) l) _ g λ rs f' g'.
     subst (λ (m : ℕ). Derived p m (get_or l t no_section).code) (omega arith) (derived_codes p (suc n) l f' t w)
 
-derived : (p : Program) {r : List ℕ} → judge_program p ≡ fine r → (t : ℕ) → WellFormed (structured (code_of p t)) → Derived p t (code_of p t)
+derived : (p : Program) {r : List ℕ} → judge_program p ≡ Ok r → (t : ℕ) → WellFormed (structured (code_of p t)) → Derived p t (code_of p t)
 unfolding judge_program code_of
 derived p e t w = subst (λ (m : ℕ). Derived p m (get_or p.codes t no_section).code) (zero-add t) (derived_codes p 0 p.codes e t w)
 
 -- each thread of a well nested program that is judged well is annotated
-pub judged_annotated : (p : Program) {r : List ℕ} → WellNested p → judge_program p ≡ fine r → ThreadsAnnotated p
+pub judged_annotated : (p : Program) {r : List ℕ} → WellNested p → judge_program p ≡ Ok r → ThreadsAnnotated p
 judged_annotated p n e t =
     let (_, _, d) = derived p e t (n.writes t).well_formed in
     subst (Annotated p t empty) (n.writes t).flat_is (annotated d (subst (AccessesBelow p) (sym (n.writes t).flat_is) (n.accesses t)))

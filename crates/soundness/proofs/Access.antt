@@ -1,7 +1,5 @@
 -- A legal access is permitted (`legal_permitted`), and leads to the lock set behind it (`legal_set`). Assumes nothing.
-use Prim.Native.Nat.{ℕ}
-use mathlib.Core.Path.{◌≡◌, refl}
-use borrow.Author.Tests.{eq-eqb}
+use Rattle.std.proofs.Common.{ℕ, ◌≡◌, refl, eq-eqb}
 use Rattle.judge.specs.Discipline.{permits}
 use Rattle.judge.specs.Rules.{Legal, legal_none, legal_read_guarded, legal_write_guarded, legal_read_own, legal_write_own, legal_read_fixed, legal_read_open, legal_write_open, legal_take, legal_give}
 use Rattle.judge.specs.declared.lock_set.LockSet.{LockSet}

@@ -1,8 +1,5 @@
 -- Typed code is annotated, whatever prefix it is begun with (`annotated`). Assumes nothing.
-use Prim.Native.Nat.{ℕ}
-use native.Mathlib.Omega.{arith}
-use mathlib.Core.Path.{subst}
-use lib.ListN.{length}
+use Rattle.std.proofs.Common.{ℕ, arith, subst, length}
 use Rattle.atomicity.specs.declared.Atomicity.{Atomicity}
 use Rattle.judge.specs.Rules.{Typed}
 use Rattle.judge.specs.declared.lock_set.LockSet.{LockSet}

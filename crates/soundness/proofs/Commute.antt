@@ -2,13 +2,9 @@
 --     move_by_comm, moved_named_comm                   in either order they lead to the same state
 --     instruction_other, outcome_other, inside_other   what the other thread's move leaves: the instruction, whether it moves, its block
 --     move_other, block_other                          and the names of its next move and its block
-use Prim.Native.Nat.{ℕ}
-use mathlib.Core.Path.{◌≡◌, sym, ap, ap₂, ◌∙◌}
-use mathlib.Core.Logic.{◌≢◌, Ne-symm}
-use mathlib.Core.Bool.{Bool}
-use lib.ListN.{length, get_or, set}
-use lib.Seq.{get_or-set_other, set_comm}
-use lib.Dec.{eqb}
+use Rattle.std.proofs.Common.{ℕ, ◌≡◌, sym, ap, ap₂, ◌∙◌, ◌≢◌, Bool, length, get_or, set, get_or-set_other, eqb}
+use Rattle.std.proofs.Math.Logic.{Ne-symm}
+use Rattle.std.proofs.Math.Seq.{set_comm}
 use Rattle.machine.specs.Block.{covered_from, inside}
 use Rattle.machine.specs.State.{State, thread_of}
 use Rattle.program.specs.View.{access_of}

@@ -1,16 +1,11 @@
 -- Demand 3 (`demand3`); the number of moves of all threads together (`same_total`). Assumes nothing.
-use Prim.Native.Nat.{ℕ, suc}
-use mathlib.Core.Path.{◌≡◌, refl, sym, ap, ◌∙◌, subst}
-use mathlib.Core.List.{List, [], ◌∷◌}
-use native.Mathlib.Omega.{arith}
-use lib.ListN.{length}
+use Rattle.std.proofs.Common.{ℕ, suc, ◌≡◌, refl, sym, ap, ◌∙◌, subst, List, [], ◌∷◌, arith, length, Ok}
 use Rattle.judge.specs.Acceptance.{Accepted, accept, sound}
 use Rattle.judge.specs.Judging.{judge_program}
 use Rattle.machine.proofs.Sums.{length-counts}
 use Rattle.machine.specs.Run.{counts_of, run, sum_of}
 use Rattle.machine.specs.declared.counts.Counts.{Counts}
 use Rattle.program.proofs.Sound.{sound_file}
-use Rattle.program.specs.Answer.{fine}
 use Rattle.program.specs.Layout.{Program, program_of, reading}
 use Rattle.soundness.specs.Demand.{Serialized, Demand3}
 use Rattle.soundness.specs.Internal.Instance.{ThreadsAnnotated}
@@ -20,14 +15,14 @@ use Rattle.soundness.proofs.Serialize.{serialized}
 use Rattle.program.proofs.Answer.{fine_inj, bind_inv}
 
 -- a sound file's program is well nested
-program_nested : (file : List ℕ) {p : Program} → sound file ≡ fine p → WellNested p
+program_nested : (file : List ℕ) {p : Program} → sound file ≡ Ok p → WellNested p
 unfolding sound
 program_nested file {p} e =
     bind_inv (reading file) _ e λ l reads answer.
     subst WellNested (fine_inj (program_of file l) p answer) (sound_nested file l (sound_file file l reads))
 
 -- every accepted program's threads are annotated
-accepted_annotated : (file : List ℕ) (a : Accepted) → accept file ≡ fine a → ThreadsAnnotated a.program
+accepted_annotated : (file : List ℕ) (a : Accepted) → accept file ≡ Ok a → ThreadsAnnotated a.program
 unfolding accept
 accepted_annotated file a e =
     bind_inv (sound file) _ e λ p e₁ f₁.

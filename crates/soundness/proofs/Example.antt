@@ -7,17 +7,9 @@
 --     frame_refused_before       by the rule of the standard's version 1.0 the same file is refused
 --     frame_seen                 after the list thread 1 has seen the frame before
 --     second_writer_refused      with a second writer thread 0's block, the same code, is refused with 13
-use Prim.Native.Nat.{ℕ, zero, suc, ◌<◌}
-use native.Mathlib.Omega.{arith}
-use mathlib.Core.Path.{◌≡◌, refl, subst}
-use mathlib.Core.Logic.{◌≢◌}
-use mathlib.Core.Bool.{Bool, true, false, ◌&&◌}
-use mathlib.Core.List.{List, [], ◌∷◌}
-use lib.ListN.{length, get_or}
-use lib.Dec.{T, ltb, ltb→lt, lit<}
-use mir.Facts.{and_yes}
+use Rattle.std.proofs.Common.{ℕ, zero, suc, ◌<◌, arith, ◌≡◌, refl, subst, ◌≢◌, Bool, true, false, ◌&&◌, List, [], ◌∷◌, length, get_or, T, ltb, ltb→lt, lit<, Ok, Err}
+use Rattle.std.proofs.Math.Facts.{and_yes}
 use Rattle.program.proofs.Differ.{differ}
-use Rattle.program.specs.Answer.{fine, refused}
 use Rattle.program.specs.declared.refusal.Refusal.TheVariants.{NotAtomic}
 use Rattle.judge.specs.Acceptance.{accept}
 use Rattle.judge.proofs.Definitions.{judging_definitions}
@@ -50,7 +42,7 @@ pub adders_sum : (run (accepted_of (accept adders)).program interleaving).state.
 unfolding definitions
 adders_sum = refl
 
-adders_accepted : accept adders ≡ fine (accepted_of (accept adders))
+adders_accepted : accept adders ≡ Ok (accepted_of (accept adders))
 unfolding definitions
 adders_accepted = refl
 
@@ -84,7 +76,7 @@ pub frame_report_lem : (accepted_of (accept frame)).report ≡ frame_report
 unfolding definitions
 frame_report_lem = refl
 
-frame_accepted : accept frame ≡ fine (accepted_of (accept frame))
+frame_accepted : accept frame ≡ Ok (accepted_of (accept frame))
 unfolding definitions
 frame_accepted = refl
 
@@ -119,12 +111,12 @@ unfolding definitions
 frame_seen = (refl, refl)
 
 -- "in 1.0 it was A": the earlier rule refuses the file with 13, at the END of thread 0's block
-pub frame_refused_before : judge_before (accepted_of (accept frame)).program ≡ refused (NotAtomic 51)
+pub frame_refused_before : judge_before (accepted_of (accept frame)).program ≡ Err (NotAtomic 51)
 unfolding definitions
 frame_refused_before = refl
 
 -- "the file would be refused with 13", at the same place
-pub second_writer_refused : accept second_writer ≡ refused (NotAtomic 51)
+pub second_writer_refused : accept second_writer ≡ Err (NotAtomic 51)
 unfolding definitions
 second_writer_refused = refl
 

@@ -2,8 +2,7 @@
 --     leads_exactly   code that ends with a lock set and a prefix may go on at the label that says so
 --     begun           typed code is begun as its labels say
 --     flow            and each of its moves follows
-use Prim.Native.Nat.{ℕ, ◌+◌}
-use mathlib.Core.Path.{◌≡◌, refl, sym, subst}
+use Rattle.std.proofs.Common.{ℕ, ◌+◌, ◌≡◌, refl, sym, subst}
 use Rattle.atomicity.specs.Atomicity.{composition, join, closure}
 use Rattle.atomicity.specs.declared.Atomicity.{Atomicity}
 use Rattle.atomicity.specs.declared.Atomicity.TheVariants.{Both}

@@ -1,15 +1,10 @@
 -- Two threads' accesses, made one after the other, of which the first is a right mover or the second a left mover, are independent
 -- (`independent`). In order: pairs that are; why the others cannot be; all pairs. Assumes nothing.
-use Prim.Native.Nat.{ℕ, ◌+◌, ◌<◌}
-use native.Mathlib.Decide.{ℕ_discrete}
-use native.Mathlib.Omega.{arith}
-use mathlib.Core.Path.{◌≡◌, refl, sym, ap, ◌∙◌, subst, subst₂}
-use mathlib.Core.Logic.{◌≢◌, Ne-symm, dite}
-use mathlib.Core.Bool.{Bool, true, false, not, ◌||◌, or_comm}
-use mathlib.Core.List.{List}
-use lib.ListN.{length, get_or, set}
-use lib.Seq.{get_or-set_same, get_or-set_other, set_comm}
-use lib.Dec.{eqb}
+use Rattle.std.proofs.Common.{ℕ, ◌+◌, ◌<◌, arith, ◌≡◌, refl, sym, ap, ◌∙◌, subst, subst₂, ◌≢◌, Bool, true, false, not, ◌||◌, List, length, get_or, set, get_or-set_same, get_or-set_other, eqb}
+use Rattle.std.proofs.Math.Decide.{ℕ_discrete}
+use Rattle.std.proofs.Math.Logic.{Ne-symm, dite}
+use Rattle.std.proofs.Math.Bool.{or_comm}
+use Rattle.std.proofs.Math.Seq.{set_comm}
 use Rattle.atomicity.specs.Atomicity.{at_most}
 use Rattle.atomicity.specs.declared.Atomicity.TheVariants as atomicity
 use Rattle.judge.proofs.AccessRaces.{race_atomic}

@@ -1,12 +1,7 @@
 -- The step machine obeys the laws of movers (`machine_movers`); standing inside, as the machine sees it and as labels do
 -- (`inside_row`). Assumes nothing.
-use Prim.Native.Nat.{ℕ, ◌<◌}
-use mathlib.Core.Path.{◌≡◌, refl, sym, ap, ap₂, ◌∙◌, subst}
-use mathlib.Core.Logic.{◌≢◌, Ne-symm}
-use mathlib.Core.Bool.{Bool, false}
-use lib.ListN.{get_or}
-use lib.Seq.{get_or-set_same}
-use lib.Dec.{T}
+use Rattle.std.proofs.Common.{ℕ, ◌<◌, ◌≡◌, refl, sym, ap, ap₂, ◌∙◌, subst, ◌≢◌, Bool, false, get_or, get_or-set_same, T}
+use Rattle.std.proofs.Math.Logic.{Ne-symm}
 use Rattle.atomicity.specs.Atomicity.{at_most}
 use Rattle.atomicity.specs.declared.Atomicity.TheVariants.{Left}
 use Rattle.judge.specs.Discipline.{mover_of}

@@ -3,15 +3,10 @@
 --     rows_flat, length-rows   the rows' instructions are the code's flat writing
 --     label_begins, label_past the label where the code begins, and the one behind it
 --     moves                    every move of the machine through the flat writing is along an edge whose condition holds
-use Prim.Native.Nat.{ℕ, suc, ◌+◌, ◌≤◌, ◌<◌}
-use native.Mathlib.Nat.{zero-add}
-use native.Mathlib.Omega.{arith}
-use borrow.Author.Tests.{eqb-true, eqb-false}
-use mathlib.Core.Path.{◌≡◌, refl, sym, ap, ◌∙◌, subst}
-use mathlib.Core.Bool.{Bool, true, false}
-use mathlib.Core.List.{List, ◌∷◌, map, map-append}
-use lib.ListN.{length, get_or, length-map, get_or-map, get_or-eq_default}
-use lib.Dec.{eqb}
+use Rattle.std.proofs.Common.{ℕ, suc, ◌+◌, ◌≤◌, ◌<◌, zero-add, arith, eqb-true, ◌≡◌, refl, sym, ap, ◌∙◌, subst, Bool, true, false, List, ◌∷◌, map, length, get_or, eqb}
+use borrow.Author.Tests.{eqb-false}
+use mathlib.Core.List.{map-append}
+use Rattle.std.proofs.Math.ListN.{length-map, get_or-map, get_or-eq_default}
 use Rattle.machine.specs.Step.{place_after, place_behind, branch, reg}
 use Rattle.program.proofs.StructureFlat.{length-flat}
 use Rattle.program.specs.Choice.{choose}

@@ -6,16 +6,10 @@
 --     in_threads, in_finished          a thread of the program is one of the state's
 --     goes, permitted, access_below    what the invariant says of its mover, its lock set, its lock or variable
 --     invariant_moved                  the invariant holds afterwards
-use Prim.Native.Nat.{ℕ, ◌≤◌, ◌<◌}
-use native.Mathlib.Decide.{ℕ_discrete}
-use native.Mathlib.Omega.{arith}
+use Rattle.std.proofs.Common.{ℕ, ◌≤◌, ◌<◌, arith, ◌≡◌, refl, sym, ap, ◌∙◌, subst, ◌≢◌, Bool, true, false, length, length-set, get_or-set_same, get_or-set_other, eqb}
 use borrow.Author.Tests.{eqb-false}
-use mathlib.Core.Path.{◌≡◌, refl, sym, ap, ◌∙◌, subst}
-use mathlib.Core.Logic.{◌≢◌, Ne-symm, dite}
-use mathlib.Core.Bool.{Bool, true, false}
-use lib.ListN.{length, length-set}
-use lib.Seq.{get_or-set_same, get_or-set_other}
-use lib.Dec.{eqb}
+use Rattle.std.proofs.Math.Decide.{ℕ_discrete}
+use Rattle.std.proofs.Math.Logic.{Ne-symm, dite}
 use Rattle.judge.specs.declared.lock_set.LockSet.{LockSet}
 use Rattle.machine.specs.State.{State, thread_of, fresh}
 use Rattle.program.proofs.Differ.{differ}

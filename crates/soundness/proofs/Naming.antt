@@ -3,15 +3,10 @@
 --     run_named_lem, run_end     so does a list, and a list from the start
 --     run_moved, moves_counted   of each thread there are as many moves as are counted; from the start
 --     moved_by_moves             so lists with the same moves have the same moved counts
-use Prim.Native.Nat.{ℕ, ◌+◌, ◌≤◌, ◌<◌}
-use native.Mathlib.Decide.{ℕ_discrete, dec_lt}
-use native.Mathlib.Nat.{add-zero, zero-add}
-use native.Mathlib.Omega.{arith}
-use mathlib.Core.Path.{◌≡◌, refl, sym, ap, ◌∙◌}
-use mathlib.Core.Logic.{ite, dite}
-use mathlib.Core.List.{List, [], ◌∷◌}
-use lib.ListN.{length, get_or, replicate, get_or-eq_default}
-use lib.Seq.{get_or-set_same, get_or-set_other}
+use Rattle.std.proofs.Common.{ℕ, ◌+◌, ◌≤◌, ◌<◌, add-zero, zero-add, arith, ◌≡◌, refl, sym, ap, ◌∙◌, List, [], ◌∷◌, length, get_or, replicate, get_or-set_same, get_or-set_other}
+use Rattle.std.proofs.Math.Decide.{ℕ_discrete, dec_lt}
+use Rattle.std.proofs.Math.Logic.{ite, dite}
+use Rattle.std.proofs.Math.ListN.{get_or-eq_default}
 use Rattle.machine.proofs.Sums.{count_kept, length-counted, length-counts}
 use Rattle.machine.specs.Run.{Run, uncounted, counts_of, counted, counted_for, run_from, run}
 use Rattle.machine.specs.declared.counts.Counts.{Counts}

@@ -2,17 +2,10 @@
 --     take-free    a lock that a TAKE may take is free
 --     owns_moved   the thread that moves holds what its lock set says afterwards
 --     owns_other   every other thread holds what it held
-use Prim.Native.Nat.{ℕ, ◌+◌}
-use native.Mathlib.Decide.{ℕ_discrete}
-use native.Mathlib.Omega.{arith}
-use borrow.Author.Tests.{eqb-true, not-false}
-use mathlib.Core.Path.{◌≡◌, sym, ◌∙◌, subst}
-use mathlib.Core.Logic.{◌≢◌, dite}
-use mathlib.Core.Bool.{Bool, true, false}
-use mathlib.Core.List.{List}
-use lib.ListN.{length, get_or}
-use lib.Seq.{get_or-set_same, get_or-set_other}
-use lib.Dec.{eqb}
+use Rattle.std.proofs.Common.{ℕ, ◌+◌, arith, eqb-true, ◌≡◌, sym, ◌∙◌, subst, ◌≢◌, Bool, true, false, List, length, get_or, get_or-set_same, get_or-set_other, eqb}
+use borrow.Author.Tests.{not-false}
+use Rattle.std.proofs.Math.Decide.{ℕ_discrete}
+use Rattle.std.proofs.Math.Logic.{dite}
 use Rattle.judge.specs.LockSet.{holds, without_lock}
 use Rattle.judge.specs.declared.lock_set.LockSet.{LockSet}
 use Rattle.judge.proofs.LockSets.{with_other, without_self, without_other}

@@ -2,15 +2,11 @@
 --     span_empty, span_one, span_join   a stretch of no place, of one, of two parts
 --     reads_first                       what is read of an element and the rest
 --     reads_apart                       what is read of a list, an element and the rest
-use Prim.Native.Nat.{ℕ, suc, ◌+◌, ◌<◌}
-use native.Mathlib.Decide.{dec_lt}
-use native.Mathlib.Nat.{add-zero}
-use native.Mathlib.Omega.{arith}
-use mathlib.Core.Path.{◌≡◌, ap, sym, ◌∙◌, subst}
-use mathlib.Core.Logic.{dite}
-use mathlib.Core.List.{List, ◌∷◌, ◌++◌}
-use lib.ListN.{length, length-append, get_or-append}
-use lib.Seq.{get_or-append_seam, get_or-append-add}
+use Rattle.std.proofs.Common.{ℕ, suc, ◌+◌, ◌<◌, add-zero, arith, ◌≡◌, ap, sym, ◌∙◌, subst, List, ◌∷◌, ◌++◌, length, length-append, get_or-append-add}
+use Rattle.std.proofs.Math.Decide.{dec_lt}
+use Rattle.std.proofs.Math.Logic.{dite}
+use Rattle.std.proofs.Math.ListN.{get_or-append}
+use Rattle.std.proofs.Math.Seq.{get_or-append_seam}
 use Rattle.soundness.specs.Internal.Places.{Reads, Span}
 
 module _ (P : ℕ → Type 0) where

@@ -9,10 +9,7 @@
 --     outside_outer, outer_outside,              standing outside, as a status and as a prefix
 --     not_outside_inner
 --     inner_behind, inner_entered                the block behind code, and behind an ATOMIC
-use mathlib.Core.Path.{◌≡◌, refl, sym, ap, subst}
-use mathlib.Core.Logic.{◌≢◌}
-use mathlib.Core.Bool.{Bool, true, false}
-use lib.Dec.{T}
+use Rattle.std.proofs.Common.{◌≡◌, refl, sym, ap, subst, ◌≢◌, Bool, true, false, T}
 use Rattle.atomicity.proofs.Laws.{then_assoc, then_both, both_then, then_mono_right, then_above, not_top_below, order_refl, order_trans, join_left, join_right, loop_again, right_before, right_after, left_after}
 use Rattle.atomicity.specs.Atomicity.{composition, join, closure, at_most}
 use Rattle.atomicity.specs.declared.Atomicity.{Atomicity}

@@ -1,13 +1,10 @@
 -- Demand 3 for every program whose threads' code is annotated. Assumes nothing.
 --     invariant_start   the invariant holds at the start
 --     serialized        start and end are quiescent and keep the invariant, so reduction gives the list
-use Prim.Native.Nat.{ℕ, ◌≤◌, ◌<◌}
-use native.Mathlib.Decide.{dec_lt}
-use native.Mathlib.Omega.{arith}
-use mathlib.Core.Path.{◌≡◌, refl, sym, ap, ◌∙◌, subst}
-use mathlib.Core.Logic.{dite}
-use mathlib.Core.List.{List}
-use lib.ListN.{length, replicate, length-replicate, get_or-eq_default}
+use Rattle.std.proofs.Common.{ℕ, ◌≤◌, ◌<◌, arith, ◌≡◌, refl, sym, ap, ◌∙◌, subst, List, length, replicate}
+use Rattle.std.proofs.Math.Decide.{dec_lt}
+use Rattle.std.proofs.Math.Logic.{dite}
+use Rattle.std.proofs.Math.ListN.{length-replicate, get_or-eq_default}
 use Rattle.judge.specs.LockSet.{empty}
 use Rattle.judge.specs.declared.lock_set.LockSet.{LockSet}
 use Rattle.judge.proofs.LockSets.{empty_holds}

@@ -1,9 +1,6 @@
 -- A list of thread numbers is a trace of the machine (`traced`), and an uninterrupted trace is an uninterrupted list (`listed`).
 -- Assumes nothing.
-use Prim.Native.Nat.{ℕ, zero, suc, ◌<◌}
-use native.Mathlib.Omega.{arith}
-use mathlib.Core.Path.{◌≡◌, refl, sym, ap, ap₂, ◌∙◌, subst}
-use mathlib.Core.List.{List, [], ◌∷◌}
+use Rattle.std.proofs.Common.{ℕ, zero, suc, ◌<◌, arith, ◌≡◌, refl, sym, ap, ap₂, ◌∙◌, subst, List, [], ◌∷◌}
 use Rattle.machine.specs.Block.{OthersOutside, UninterruptedFrom}
 use Rattle.machine.specs.Run.{Entries}
 use Rattle.machine.specs.State.{State}

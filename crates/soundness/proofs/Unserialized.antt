@@ -5,16 +5,8 @@
 --     two_writes_nobody          after the list no thread stands inside a block
 --     two_writes_unserialized    and no uninterrupted list ends alike
 --     two_writes_to_refuse       no judging that has demand 3 accepts the file
-use Prim.Native.Nat.{ℕ, zero, suc, ◌<◌}
-use native.Mathlib.Omega.{arith}
-use mathlib.Core.Path.{◌≡◌, refl, sym, ap, ◌∙◌, subst}
-use mathlib.Core.Logic.{◌≢◌}
-use mathlib.Core.Bool.{Bool, true, not, ◌&&◌}
-use mathlib.Core.List.{List, [], ◌∷◌}
-use lib.Dec.{T, T_not, lit<}
-use lib.ListN.{get_or}
-use mir.Facts.{and_yes}
-use Rattle.program.specs.Answer.{fine, refused}
+use Rattle.std.proofs.Common.{ℕ, zero, suc, ◌<◌, arith, ◌≡◌, refl, sym, ap, ◌∙◌, subst, ◌≢◌, Bool, true, not, ◌&&◌, List, [], ◌∷◌, T, T_not, lit<, get_or, Ok, Err}
+use Rattle.std.proofs.Math.Facts.{and_yes}
 use Rattle.program.specs.Choice.{choose}
 use Rattle.program.specs.Layout.{Program}
 use Rattle.program.specs.declared.refusal.Refusal.TheVariants.{NotAtomic}
@@ -73,7 +65,7 @@ unfoldable definitions : Unit {0}
 unfolding judging_definitions running_definitions two_writes two_writes_program between_writes sees_between may_move never
 definitions = tt
 
-pub two_writes_refused : (sound two_writes ≡ fine two_writes_program) × (accept two_writes ≡ refused (NotAtomic 31))
+pub two_writes_refused : (sound two_writes ≡ Ok two_writes_program) × (accept two_writes ≡ Err (NotAtomic 31))
 unfolding definitions
 two_writes_refused = (refl, refl)
 

@@ -1,11 +1,10 @@
 -- Demand 3 (the standard, "What is promised"): "one claim about a whole list, not one for each entry: it compares the whole end states
 -- of the given and the uninterrupted list, and each thread's moved count". Also promised of the uninterrupted list: each thread makes
 -- its moves of the given list in their order, and the blocks keep their turn.
-use Rattle.std.specs.Prelude.{ℕ, ◌≡◌, List}
+use Rattle.std.specs.Prelude.{ℕ, ◌≡◌, List, Ok}
 use Rattle.judge.specs.Acceptance.{Accepted, accept}
 use Rattle.machine.specs.Block.{NobodyInside, Uninterrupted}
 use Rattle.machine.specs.Run.{Entries, counts_of, run}
-use Rattle.program.specs.Answer.{fine}
 use Rattle.program.specs.Layout.{Program}
 use Rattle.soundness.specs.Naming.{BlockName, moves, moves_of, Precedes}
 
@@ -30,6 +29,6 @@ pub record Serialized (p : Program) (list : List ℕ) : Type 0 where
 -- block, there is such a list
 unfoldable pub Demand3 : List ℕ → Type 0
 Demand3 file =
-    (a : Accepted) → accept file ≡ fine a
+    (a : Accepted) → accept file ≡ Ok a
     → (list : List ℕ) → ThreadsOf a.program list → NobodyInside a.program (run a.program list).state
     → Serialized a.program list

@@ -2,9 +2,9 @@
 -- each thread's moves, and which block is over when another begins ("What is promised"). A block is named by its thread and
 -- how many blocks that thread had finished before. "The move of the ATOMIC itself is its block's first. Any other move outside every
 -- block counts as a block of one".
-use Rattle.std.specs.Prelude.{ℕ, suc, ◌≡◌, Bool, true, false, get_or, set, replicate}
+use Rattle.std.specs.Prelude.{ℕ, suc, ◌≡◌, Bool, true, false, get_or, set, replicate, List, [], ◌∷◌}
+use mathlib.Core.List.{filter}
 use Rattle.std.proofs.Math.Decide.{ℕ_discrete}
-use mathlib.Core.List.{List, [], ◌∷◌, filter}
 use Rattle.machine.specs.Block.{inside}
 use Rattle.machine.specs.State.{State, start, thread_of}
 use Rattle.machine.specs.Step.{instruction_of, move_by, outcome, after}

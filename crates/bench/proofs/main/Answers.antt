@@ -1,6 +1,5 @@
 -- `main`: the text lies within its array. Assumes nothing.
-use Rattle.std.proofs.Common.{sym}
-use lib.Seq.{length-take-le}
+use Rattle.std.proofs.Common.{sym, length-take-le}
 use Rattle.bench.proofs.Lines.{laid_within}
 use Rattle.bench.proofs.main.Goals as goal
 

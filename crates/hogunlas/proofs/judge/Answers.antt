@@ -1,34 +1,31 @@
--- `judge` meets its contract: the file's refusals, a buffer that is too short, or the report copied over the buffer; demand 2 is a theorem of every file.
+-- `judge` meets its contract: the file's refusals, a buffer that is too short, or the report copied over the buffer; demand 2 is a theorem
+-- of every file.
 -- Assumes nothing.
-use Rattle.std.proofs.Common.{refl, arith, take, length-take}
-use lib.Seq.{take-length}
-use Rattle.hogunlas.proofs.JudgeCall.{as_accepted, as_refused, report_within, report_front_length, judge_refused, judge_short, judge_done}
+use Rattle.std.proofs.Common.{◌≡◌, refl, length, Err, rules}
+use Rattle.judge.proofs.RulesFile.{demand2}
+use Rattle.hogunlas.specs.Calls.{judge_buffer, laid_over}
+use Rattle.hogunlas.proofs.JudgeCall.{report_front, judge_refused, judge_short, judge_done}
 use Rattle.hogunlas.proofs.judge.Goals as goal
 
--- `return Judged::Refused(Refusal::ShortBuffer(n))`
+-- the file is refused
+pub returns-in_err-n : goal.returns-in_err-n
+unfolding judge_buffer
+returns-in_err-n c =
+    let e = judge_refused c.args.file.now (length c.args.out.now) _ c.in_err-n.ensures in
+    let handed : c.from_residual.result ≡ Err c.in_err-n.field-0.0 = search rules in
+    record { result = rw (handed, e) refl; buffer = rw e refl; demand = demand2 c.args.file.now }
+
+-- `return Err(Refusal::ShortBuffer(n))`
 pub returns-then-out-n : goal.returns-then-out-n
+unfolding judge_buffer
 returns-then-out-n c =
-    let found = as_accepted _ _ _ _ _ _ c.in-Done.is c.judge_file-judging.ensures in
-    let a = judge_short c.args.file.now c.args.out.now found c.if-out-n.true in
-    record { result = a.0; buffer = a.1.0; demand = a.1.1 }
+    let e = judge_short c.in_ok-n.ensures (length c.args.out.now) c.if-out-n.true in
+    record { result = rw e refl; buffer = rw e refl; demand = demand2 c.args.file.now }
 
--- `out[..n].copy_from_slice(&report[..n])`
-pub slice_bounds-report-end : goal.slice_bounds-report-end
-slice_bounds-report-end c = let found = as_accepted _ _ _ _ _ _ c.in-Done.is c.judge_file-judging.ensures in omega (arith, report_within found)
-
-pub copy_from_slice-requires : goal.copy_from_slice-requires
-copy_from_slice-requires c =
-    let found = as_accepted _ _ _ _ _ _ c.in-Done.is c.judge_file-judging.ensures in
-    omega (arith, length-take c.in-Done.n c.args.out.now, report_front_length found)
-
-pub returns-in-Refused : goal.returns-in-Refused
-returns-in-Refused c =
-    let a = judge_refused c.args.file.now c.args.out.now _ (as_refused _ _ _ _ _ _ c.in-Refused.is c.judge_file-judging.ensures) in
-    record { result = a.0; buffer = a.1.0; demand = a.1.1 }
-
-pub returns-else-out-n : goal.returns-else-out-n
-returns-else-out-n c =
-    let found = as_accepted _ _ _ _ _ _ c.in-Done.is c.judge_file-judging.ensures in
-    let a = judge_done c.args.file.now c.args.out.now found c.if-out-n.false _
-    (rw (c.copy_from_slice.ensures.after, take-length (take c.in-Done.n c.judge_file-judging.new.report), ← (report_front_length found)) refl) in
-    record { result = a.0; buffer = a.1.0; demand = a.1.1 }
+-- `Ok(n)`
+pub returns : goal.returns
+unfolding judge_buffer laid_over
+returns c =
+    let found = c.in_ok-n.ensures in
+    let e = judge_done found (length c.args.out.now) c.if-out-n.false in
+    record { result = rw (e, found.size) refl; buffer = rw (e, c.copy_from_slice.ensures.after, report_front found, found.size) refl; demand = demand2 c.args.file.now }

@@ -1,55 +1,48 @@
 -- `line` meets its contract: the file's refusals, no such line, a buffer that is too short, or the line laid over the buffer. Assumes nothing.
-use native.Mathlib.Omega.{arith}
-use Prim.Native.Nat.{◌≤◌}
-use Rattle.hogunlas.proofs.JudgeCall.{as_accepted, as_refused, report_within}
-use Rattle.hogunlas.proofs.Opening.{opened_by, counts_small}
+use Rattle.std.proofs.Common.{◌≡◌, refl, ◌≤◌, length, length-take, Err, rules, arith}
+use Rattle.hogunlas.specs.Calls.{line_buffer, laid_over}
+use Rattle.hogunlas.proofs.JudgeCall.{report_front, report_within}
+use Rattle.hogunlas.proofs.Opening.{opened_by}
 use Rattle.hogunlas.proofs.Printing.{line_refused, line_number, line_short, line_done}
 use Rattle.hogunlas.proofs.line.Goals as goal
 
--- `let count = line_count(l)`
-pub line_count-count-requires : goal.line_count-count-requires
-line_count-count-requires c =
-    let found = as_accepted _ _ _ _ _ _ c.in-Done.is c.judge_file-judging.ensures in
-    counts_small c.args.file.now c.in-Done.l found.table.sound
+-- the file is refused
+pub returns-in_err-program : goal.returns-in_err-program
+unfolding line_buffer
+returns-in_err-program c =
+    let e = line_refused c.args.file.now c.args.i (length c.args.out.now) _ c.in_err-program.ensures in
+    let handed : c.from_residual.result ≡ Err c.in_err-program.field-0.0 = search rules in
+    record { result = rw (handed, e) refl; buffer = rw e refl }
 
--- `return Printed::Refused(Refusal::LineNumber(count))`
+-- `let printout = Printout {`
+pub invariant_of-printout : goal.invariant_of-printout
+invariant_of-printout c =
+    let found = c.in_ok-program.ensures in
+    omega (arith, found.counted, report_within found, length-take c.in_ok-program.n c.judge_file.new.report)
+
+-- `return Err(Refusal::LineNumber(count))`
 pub returns-then-count-i : goal.returns-then-count-i
+unfolding line_buffer
 returns-then-count-i c =
-    let found = as_accepted _ _ _ _ _ _ c.in-Done.is c.judge_file-judging.ensures in
     let counted = c.line_count-count.ensures in
     let past : c.line_count-count.result ≤ c.args.i = c.if-count-i.true in
-    let a = rw (← counted) at
-    (line_number c.args.file.now c.args.i c.args.out.now c.in-Done.l found.accepted.report (opened_by found) (rw counted at past)) in
-    record { result = a.0; buffer = a.1 }
+    let e = line_number c.args.file.now c.args.i (length c.args.out.now) _ _ (opened_by c.in_ok-program.ensures) (rw counted at past) in
+    record { result = rw (e, counted) refl; buffer = rw e refl }
 
--- `return Printed::Refused(Refusal::ShortBuffer(LINE_SIZE))`
+-- `return Err(Refusal::ShortBuffer(LINE_SIZE))`
 pub returns-then-out-lt-LINE_SIZE : goal.returns-then-out-lt-LINE_SIZE
+unfolding line_buffer
 returns-then-out-lt-LINE_SIZE c =
-    let found = as_accepted _ _ _ _ _ _ c.in-Done.is c.judge_file-judging.ensures in
-    let counted = c.line_count-count.ensures in
-    let a = line_short c.args.file.now c.args.i c.args.out.now c.in-Done.l found.accepted.report (opened_by found)
-    (rw counted at c.if-count-i.false) c.if-out-lt-LINE_SIZE.true in
-    record { result = a.0; buffer = a.1 }
+    let there = rw c.line_count-count.ensures at c.if-count-i.false in
+    let e = line_short c.args.file.now c.args.i (length c.args.out.now) _ _ (opened_by c.in_ok-program.ensures) there c.if-out-lt-LINE_SIZE.true in
+    record { result = rw e refl; buffer = rw e refl }
 
-pub write_line-requires : goal.write_line-requires
-write_line-requires c =
-    let found = as_accepted _ _ _ _ _ _ c.in-Done.is c.judge_file-judging.ensures in (
-      c.row_table-rows.ensures,
-      found.table,
-      omega (arith, found.counted, report_within found),
-      rw c.line_count-count.ensures at c.if-count-i.false,
-      c.if-out-lt-LINE_SIZE.false,
-    )
-
-pub returns-in-Refused : goal.returns-in-Refused
-returns-in-Refused c =
-    let a = line_refused c.args.file.now c.args.i c.args.out.now _ (as_refused _ _ _ _ _ _ c.in-Refused.is c.judge_file-judging.ensures) in
-    record { result = a.0; buffer = a.1 }
-
-pub returns-else-out-lt-LINE_SIZE : goal.returns-else-out-lt-LINE_SIZE
-returns-else-out-lt-LINE_SIZE c =
-    let found = as_accepted _ _ _ _ _ _ c.in-Done.is c.judge_file-judging.ensures in
-    let a = line_done c.args.file.now c.args.i c.args.out.now c.in-Done.l found.accepted.report (opened_by found)
-    (rw c.line_count-count.ensures at c.if-count-i.false) c.if-out-lt-LINE_SIZE.false _ (omega (arith, found.counted, found.size))
-    _ c.write_line.result (rw found.bytes at c.write_line.ensures) in
-    record { result = a.0; buffer = a.1 }
+-- `Ok(printout.write_line(i, out))`
+pub returns : goal.returns
+unfolding line_buffer laid_over
+returns c =
+    let found = c.in_ok-program.ensures in
+    let there = rw c.line_count-count.ensures at c.if-count-i.false in
+    let e = line_done c.args.file.now c.args.i (length c.args.out.now) _ _ (opened_by found) there c.if-out-lt-LINE_SIZE.false in
+    let written = rw (found.of_file, report_front found) at c.write_line.ensures in
+    record { result = rw (e, written.counted) refl; buffer = rw e written.bytes }

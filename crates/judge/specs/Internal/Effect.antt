@@ -4,11 +4,11 @@
 --     access_effect   a plain instruction, by the access that it makes
 --     form_effect     an opener or a closer
 --     effect_of       any instruction
-use Rattle.std.specs.Prelude.{ℕ, true, false}
+use Rattle.std.specs.Prelude.{ℕ, true, false, not, Ok}
 use Rattle.atomicity.specs.Atomicity.{by}
 use Rattle.atomicity.specs.declared.Atomicity.{Atomicity}
 use Rattle.program.specs.View.{Access, none, reads, writes, takes, gives, access_of, form_of, statement_of, Form}
-use Rattle.program.specs.Choice.{choose}
+use Rattle.program.specs.Answer.{Answer, require}
 use Rattle.program.specs.Layout.{Program}
 use Rattle.program.specs.View as form
 use Rattle.program.specs.declared.instruction.Instruction.{Instruction}
@@ -16,7 +16,7 @@ use Rattle.program.specs.declared.refusal.Refusal.TheVariants as refusal
 use Rattle.judge.specs.Discipline.{kind_at, permits, access_atomicity}
 use Rattle.judge.specs.LockSet.{holds}
 use Rattle.judge.specs.declared.effect.Effect.{Effect}
-use Rattle.judge.specs.declared.effect.Effect.TheVariants.{Nothing, Single, Takes, Gives, Opens, Begins, Closes, Refused}
+use Rattle.judge.specs.declared.effect.Effect.TheVariants.{Nothing, Single, Takes, Gives, Opens, Closes}
 use Rattle.judge.specs.declared.frame.Part.TheVariants as part
 use Rattle.judge.specs.declared.lock_set.LockSet.{LockSet}
 
@@ -24,22 +24,23 @@ use Rattle.judge.specs.declared.lock_set.LockSet.{LockSet}
 abbrev pub passing : Atomicity → Effect
 passing = by Nothing Single Single Single Single
 
-unfoldable pub access_effect : Program → (c d : ℕ) → Access → LockSet → Effect
-access_effect p c d none s = Nothing
-access_effect p c d (reads v) s = choose (permits (kind_at p v) c s false) (passing (access_atomicity p c v false)) (Refused (refusal.Access d))
-access_effect p c d (writes v a) s = choose (permits (kind_at p v) c s true) (passing (access_atomicity p c v true)) (Refused (refusal.Access d))
-access_effect p c d (takes k) s = choose (holds s k) (Refused (refusal.Taken d)) (Takes k)
-access_effect p c d (gives k) s = choose (holds s k) (Gives k) (Refused (refusal.NotTaken d))
+-- or it offends the lock discipline
+unfoldable pub access_effect : Program → (c d : ℕ) → Access → LockSet → Answer Effect
+access_effect p c d none s = Ok Nothing
+access_effect p c d (reads v) s = require (permits (kind_at p v) c s false) (refusal.Access d) (Ok (passing (access_atomicity p c v false)))
+access_effect p c d (writes v a) s = require (permits (kind_at p v) c s true) (refusal.Access d) (Ok (passing (access_atomicity p c v true)))
+access_effect p c d (takes k) s = require (not (holds s k)) (refusal.Taken d) (Ok (Takes k))
+access_effect p c d (gives k) s = require (holds s k) (refusal.NotTaken d) (Ok (Gives k))
 
 -- an opener or a closer, where an ATOMIC states this; a plain instruction has this effect
-unfoldable pub form_effect : Form → (stated : ℕ) → (plain : Effect) → Effect
+unfoldable pub form_effect : Form → (stated : ℕ) → (plain : Answer Effect) → Answer Effect
 form_effect form.Plain stated plain = plain
-form_effect (form.If a n) stated plain = Opens part.Then
-form_effect (form.Else n) stated plain = Closes
-form_effect (form.While a n) stated plain = Opens part.Body
-form_effect (form.Again n) stated plain = Closes
-form_effect (form.Atomic n) stated plain = Begins stated
-form_effect form.End stated plain = Closes
+form_effect (form.If a n) stated plain = Ok (Opens part.Then)
+form_effect (form.Else n) stated plain = Ok Closes
+form_effect (form.While a n) stated plain = Ok (Opens part.Body)
+form_effect (form.Again n) stated plain = Ok Closes
+form_effect (form.Atomic n) stated plain = Ok (Opens (part.Block stated))
+form_effect form.End stated plain = Ok Closes
 
-unfoldable pub effect_of : Program → (c d : ℕ) → Instruction → LockSet → Effect
+unfoldable pub effect_of : Program → (c d : ℕ) → Instruction → LockSet → Answer Effect
 effect_of p c d i s = form_effect (form_of i) (statement_of i) (access_effect p c d (access_of i) s)

@@ -1,27 +1,24 @@
 -- What judging a file answers, and what it leaves in the report's buffer (the standard, "Who can bring a number about", "The report":
 -- "Judge returns its length; later bytes are kept"). The buffer is large enough for every report; on a refusal nothing is said of its bytes, and the
 -- public calls hand none of them on.
---     AcceptedAs   the file is accepted: its sections, its counts, its report's length and the buffer afterwards
+--     AcceptedAs   the file is accepted: what is known of it, its report's length and the buffer afterwards
 --     Judgement    what an answer of judge_file says
-use Rattle.std.specs.Prelude.{ℕ, ◌+◌, ◌≡◌, List, ◌++◌, length, drop}
-use Rattle.program.specs.Answer.{fine, refused}
+use Rattle.std.specs.Prelude.{ℕ, ◌+◌, ◌≡◌, List, ◌++◌, Result, Ok, Err, length, drop}
 use Rattle.program.specs.Layout.{reading}
-use Rattle.program.specs.Internal.Sections.{SectionTable}
-use Rattle.program.specs.declared.layout.Layout.{Layout}
+use Rattle.program.specs.declared.refusal.Refusal.{Refusal}
+use Rattle.program.specs.declared.sections.ProgramFile.{ProgramFile}
 use Rattle.judge.specs.Acceptance.{Accepted, accept}
-use Rattle.judge.specs.declared.judging.Judging.{Judging}
-use Rattle.judge.specs.declared.judging.Judging.TheVariants.{Done, Refused}
 
--- the file s is accepted: the table of its sections, its counts, its report's length, and the buffer before and after
-pub record AcceptedAs (s starts counts before after : List ℕ) (l : Layout) (n : ℕ) : Type 0 where
+-- the file s is accepted: its bytes and counts, its report's length, and the buffer before and after
+pub record AcceptedAs (s before after : List ℕ) (file : ProgramFile) (n : ℕ) : Type 0 where
   pub accepted : Accepted
-  pub accepts : accept s ≡ fine accepted
-  pub reads : reading s ≡ fine l
-  pub table : SectionTable s l starts counts
+  pub accepts : accept s ≡ Ok accepted
+  pub reads : reading s ≡ Ok file.layout
+  pub of_file : file.bytes.now ≡ s
   pub size : n ≡ length accepted.report
-  pub counted : n ≡ l.instructions + l.threads
+  pub counted : n ≡ file.layout.instructions + file.layout.threads
   pub bytes : after ≡ accepted.report ++ drop n before
 
-abbrev pub Judgement : (s starts counts before after : List ℕ) → Judging → Type 0
-Judgement s starts counts before after (Done l n) = AcceptedAs s starts counts before after l n
-Judgement s starts counts before after (Refused r) = accept s ≡ refused r
+abbrev pub Judgement : (s before after : List ℕ) → Result (ProgramFile × ℕ) Refusal → Type 0
+Judgement s before after (Ok answer) = AcceptedAs s before after answer.0 answer.1
+Judgement s before after (Err r) = accept s ≡ Err r

@@ -6,22 +6,13 @@
 --     marked_codes   the codes from number n on, each with its bit
 --     writer_table   all codes of a program, from an empty table
 --     codes_in       a file's codes
---     MarkedCode, Marked, MarkedFile
---                    what is in the table after a walk, a section, the file that was read; of a refused one nothing is said
-use Rattle.std.specs.Prelude.{ℕ, suc, ◌/◌, ◌^◌, ◌≡◌, Bool, not, List, [], ◌∷◌, eqb, get_or, set, replicate}
+use Rattle.std.specs.Prelude.{ℕ, suc, ◌/◌, ◌^◌, Bool, not, List, [], ◌∷◌, eqb, get_or, set, replicate}
 use Rattle.std.specs.Int.Bits.{bit_or}
 use Rattle.program.specs.Field.{byte_at, pair_at}
-use Rattle.program.specs.Layout.{Program, CodeSection, codes_at, program_of}
+use Rattle.program.specs.Layout.{Program, CodeSection, codes_at}
 use Rattle.program.specs.Limits.{variable_size, variable_limit, record_offset}
 use Rattle.program.specs.View.{Access, none, reads, writes, takes, gives, access_of}
-use Rattle.program.specs.declared.cursor.Field.{Field}
-use Rattle.program.specs.declared.cursor.Field.TheVariants.{Value, Refused}
 use Rattle.program.specs.declared.instruction.Instruction.{Instruction}
-use Rattle.program.specs.declared.layout.Reading.{Reading}
-use Rattle.program.specs.declared.layout.Reading.TheVariants.{Sound}
-use Rattle.program.specs.declared.layout.Reading.TheVariants as reading
-use Rattle.program.specs.declared.walk.Walked.{Walked}
-use Rattle.program.specs.declared.walk.Walked.TheVariants.{Nested, Invalid, Broken}
 
 abbrev pub write_row : ℕ
 write_row = 7
@@ -54,16 +45,3 @@ writer_table p = marked_codes 0 p.codes (replicate variable_limit 0)
 -- the codes of a file whose counts are right
 abbrev pub codes_in : List ℕ → List CodeSection
 codes_in s = let n = pair_at s 3 / variable_size in codes_at (byte_at s 1) n s (byte_at s 2) (record_offset n)
-
-abbrev pub MarkedCode : Walked → (expected table : List ℕ) → Type 0
-MarkedCode Nested expected table = table ≡ expected
-MarkedCode (Invalid d) expected table = Unit
-MarkedCode (Broken d) expected table = Unit
-
-abbrev pub Marked : Field → (ℕ → List ℕ) → List ℕ → Type 0
-Marked (Value n end) expected table = table ≡ expected n
-Marked (Refused r) expected table = Unit
-
-abbrev pub MarkedFile : Reading → (s before after : List ℕ) → Type 0
-MarkedFile (Sound l) s before after = after ≡ marked_codes 0 (program_of s l).codes before
-MarkedFile (reading.Refused r) s before after = Unit

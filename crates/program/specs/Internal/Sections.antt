@@ -4,13 +4,12 @@
 --     Located        where a code lies
 --     bytes_before   how many report bytes the codes before one have
 --     SectionTable   the whole table of a sound file
-use Rattle.std.specs.Prelude.{ℕ, zero, suc, ◌+◌, ◌-◌, ◌*◌, ◌≤◌, ◌<◌, ◌≡◌, List, [], length, get_or}
+use Rattle.std.specs.Prelude.{ℕ, zero, suc, ◌+◌, ◌-◌, ◌*◌, ◌≤◌, ◌<◌, ◌≡◌, List, [], length, get_or, None}
 use Rattle.program.specs.Layout.{CodeSection, program_of, instructions_at}
 use Rattle.program.specs.Limits.{instruction_limit, instruction_size}
 use Rattle.program.specs.Nesting.{first_broken}
 use Rattle.program.specs.Internal.Bounds.{code_limit}
 use Rattle.program.specs.Internal.Sound.{AllValid, SoundFile, count_at}
-use Rattle.program.specs.declared.found.Found.TheVariants.{Nowhere}
 use Rattle.program.specs.declared.layout.Layout.{Layout}
 
 abbrev pub no_section : CodeSection
@@ -24,7 +23,7 @@ pub record Located (s : List ℕ) (l : Layout) (start count c : ℕ) : Type 0 wh
   pub inside : start + instruction_size * count ≤ length s
   pub short : count ≤ instruction_limit
   pub valid : AllValid l.locks l.variables s count start
-  pub nested : first_broken 0 (instructions_at l.locks l.variables s count start) [] ≡ Nowhere
+  pub nested : first_broken 0 (instructions_at l.locks l.variables s count start) [] ≡ None
 
 -- how many report bytes the codes before code c have: one for each instruction, and one for the whole
 unfoldable pub bytes_before : List ℕ → (c : ℕ) → ℕ

@@ -1,6 +1,7 @@
 -- All instructions once more, for what proofs ask of each: what the rules see of it, and the registers that it names.
 --     Seen            a local instruction, with the registers that it names; an access, an opener or a closer by its constructor
 --     seen            each is one of these
+--     registers_of    the registers that one names
 --     AreRegisters, RegistersGood
 --                     numbers of registers that there are; an instruction names no others
 use Rattle.std.specs.Prelude.{ℕ, ◌<◌, ◌≡◌, refl, List, [], ◌∷◌}
@@ -44,7 +45,7 @@ abbrev pub AreRegisters : List ℕ → Type 0
 AreRegisters [] = Unit
 AreRegisters (a ∷ rs) = (a < register_count) × AreRegisters rs
 
-abbrev registers_of : {i : Instruction} → Seen i → List ℕ
+abbrev pub registers_of : {i : Instruction} → Seen i → List ℕ
 registers_of (seen_local rs e) = rs
 registers_of (seen_read {a} {v}) = a ∷ []
 registers_of (seen_write {a} {v}) = a ∷ []

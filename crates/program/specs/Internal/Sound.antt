@@ -4,8 +4,13 @@
 --     AllValid                                the instructions of a section are valid
 --     count_at, SoundSection, SoundSections   a code section, and all of them
 --     SoundFile                               the whole file
+--     SoundSections-prop                      the sections are sound in one way only: src/sections.rt keeps it as a ghost field
 --     report_size                             how many report bytes its codes have
-use Rattle.std.specs.Prelude.{ℕ, zero, suc, ◌+◌, ◌*◌, ◌/◌, ◌<◌, ◌≤◌, ◌≡◌, true, List, [], ◌∷◌, length}
+use Rattle.std.specs.Prelude.{ℕ, zero, suc, ◌+◌, ◌*◌, ◌/◌, ◌<◌, ◌≤◌, ◌≡◌, true, List, [], ◌∷◌, length, None}
+use mathlib.Core.HLevel.{×_prop, is_prop→PathP}
+use native.Mathlib.Nat.{ℕ_set}
+use native.Mathlib.Omega.{arith}
+use Rattle.std.proofs.Props.{props}
 use Rattle.program.specs.View.{Access, none, reads, writes, takes, gives, access_of}
 use Rattle.program.specs.Field.{byte_at, pair_at}
 use Rattle.program.specs.Instruction.{decode_at}
@@ -16,7 +21,6 @@ use Rattle.program.specs.Nesting.{first_broken}
 use Rattle.program.specs.Layout.{CodeSection, instructions_at}
 use Rattle.program.specs.Internal.Seen.{RegistersGood}
 use Rattle.program.specs.Limits.{lock_limit, thread_limit, variable_size, variable_limit, instruction_size, instruction_limit, record_offset}
-use Rattle.program.specs.declared.found.Found.TheVariants.{Nowhere}
 use Rattle.program.specs.declared.instruction.Instruction.{Instruction}
 use Rattle.program.specs.declared.layout.Layout.{Layout}
 
@@ -46,13 +50,26 @@ pub record SoundSection (s : List ℕ) (locks variables at : ℕ) : Type 0 where
   pub few : count_at s at ≤ instruction_limit
   pub whole : at + 2 + instruction_size * count_at s at ≤ length s
   pub valid : AllValid locks variables s (count_at s at) (at + 2)
-  pub nested : first_broken 0 (instructions_at locks variables s (count_at s at) (at + 2)) [] ≡ Nowhere
+  pub nested : first_broken 0 (instructions_at locks variables s (count_at s at) (at + 2)) [] ≡ None
 
 -- n code sections from an offset to the file's end, with m instructions together
 abbrev pub SoundSections : List ℕ → (locks variables n at m : ℕ) → Type 0
 SoundSections s locks variables zero at m = (at ≡ length s) × (m ≡ 0)
 SoundSections s locks variables (suc n) at m =
     (rest : ℕ) × SoundSection s locks variables at × (m ≡ count_at s at + rest) × SoundSections s locks variables n (at + 2 + instruction_size * count_at s at) rest
+
+pub SoundSections-prop : (s : List ℕ) (locks variables n at m : ℕ) → IsProp (SoundSections s locks variables n at m)
+SoundSections-prop s locks variables zero at m = ×_prop (ℕ_set at (length s)) (ℕ_set m 0)
+SoundSections-prop s locks variables (suc n) at m = λ x y.
+    let here : IsProp (SoundSection s locks variables at) = hlevel props in
+    let rest : x.0 ≡ y.0 = omega (arith, x.2, y.2) in
+    let next = at + 2 + instruction_size * count_at s at in
+    λ i. (
+      rest i,
+      here x.1 y.1 i,
+      is_prop→PathP (λ j. m ≡ count_at s at + rest j) (λ j. ℕ_set m (count_at s at + rest j)) x.2 y.2 i,
+      is_prop→PathP (λ j. SoundSections s locks variables n next (rest j)) (λ j. SoundSections-prop s locks variables n next (rest j)) x.3 y.3 i,
+    )
 
 pub record SoundFile (s : List ℕ) (l : Layout) : Type 0 where
   pub version : byte_at s 0 ≡ 1

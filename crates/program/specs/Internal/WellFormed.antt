@@ -5,8 +5,7 @@
 --     Parsed, Body, Parser                      code read from instructions
 --     Beyond, NamesBefore, LeadsBack, LeadBack  the places that open entries name
 --     Jump, Jumps                               distances that lead to places of the code
-use Rattle.std.specs.Prelude.{ℕ, suc, max, ◌+◌, ◌≤◌, ◌<◌, ◌≡◌, List, [], ◌∷◌, ◌++◌, length}
-use Rattle.program.specs.declared.found.Found.TheVariants.{Nowhere}
+use Rattle.std.specs.Prelude.{ℕ, suc, max, ◌+◌, ◌≤◌, ◌<◌, ◌≡◌, List, [], ◌∷◌, ◌++◌, length, None}
 use Rattle.program.specs.declared.instruction.Instruction.{Instruction}
 use Rattle.program.specs.declared.instruction.Instruction.TheVariants as instruction
 use Rattle.program.specs.View.{Form, Plain, If, Else, While, Again, Atomic, End, form_of}
@@ -52,7 +51,7 @@ pub record Writes (is : List Instruction) (c : Code) : Type 0 where
 
 -- from place p on, with these entries open
 abbrev pub Passes : ℕ → List Instruction → List Entry → Type 0
-Passes p is es = first_broken p is es ≡ Nowhere
+Passes p is es = first_broken p is es ≡ None
 
 -- it has come to the code's end or to a closer: what stands there, which entry it closes, and how it goes on
 pub data Closes (p : ℕ) : List Instruction → List Entry → Type 0 where

@@ -11,11 +11,11 @@
 --     frame_report      the report
 --     Interrupted       the premises hold of a file and a list that is itself interrupted
 --     accepted_of       what a file is accepted with
-use Rattle.std.specs.Prelude.{ℕ, ◌≡◌, List, [], ◌∷◌, ◌++◌}
+use Rattle.std.specs.Prelude.{ℕ, ◌≡◌, List, [], ◌∷◌, ◌++◌, Ok, Err}
 use Rattle.judge.specs.Acceptance.{Accepted, accept}
 use Rattle.machine.specs.Block.{NobodyInside, Uninterrupted}
 use Rattle.machine.specs.Run.{run}
-use Rattle.program.specs.Answer.{Answer, fine, refused}
+use Rattle.program.specs.Answer.{Answer}
 use Rattle.soundness.specs.Demand.{ThreadsOf}
 
 -- ATOMIC 7, TAKE k0, READ r0 v0, SET r1 1, ADD r0 r0 r1, WRITE r0 v0, GIVE k0, END, with the section's length
@@ -89,12 +89,12 @@ frame_report = 4 ∷ 1 ∷ 1 ∷ 1 ∷ 3 ∷ 1 ∷ 4 ∷ 2 ∷ 0 ∷ 4 ∷ 4 ∷
 -- demand 3's premises hold of the file and the list, and the list is not itself the one that is promised
 pub record Interrupted (file list : List ℕ) : Type 0 where
   pub answer : Accepted
-  pub accepted : accept file ≡ fine answer
+  pub accepted : accept file ≡ Ok answer
   pub threads : ThreadsOf answer.program list
   pub nobody : NobodyInside answer.program (run answer.program list).state
   pub interrupted : Uninterrupted answer.program list → ⊥
 
 -- what an accepted file is answered; of another file this says nothing
 unfoldable pub accepted_of : Answer Accepted → Accepted
-accepted_of (fine a) = a
-accepted_of (refused r) = record { program = record { locks = 0; variables = []; threads = 0; codes = [] }; report = [] }
+accepted_of (Ok a) = a
+accepted_of (Err r) = record { program = record { locks = 0; variables = []; threads = 0; codes = [] }; report = [] }

@@ -1,43 +1,33 @@
 -- `print_lines` meets its contract: after i turns the first i lines are written. Assumes nothing.
-use native.Mathlib.Omega.{arith}
-use Prim.Native.Nat.{◌+◌, ◌≤◌}
-use mathlib.Core.Path.{◌≡◌, sym, ◌∙◌}
-use lib.ListN.{length, length-drop, length-take}
+use Rattle.std.proofs.Common.{◌≡◌, ◌∙◌, sym, ◌+◌, ◌≤◌, length, length-drop, length-take, arith}
 use Rattle.hogunlas.proofs.Opening.{counts_small}
 use Rattle.printout.proofs.Parts.{length-lines}
-use Rattle.printout.specs.Line.{lines}
-use Rattle.program.specs.Layout.{program_of}
 use Rattle.program.specs.Limits.{line_size}
 use Rattle.program.specs.Internal.Bounds.{line_limit}
+use Rattle.bench.specs.Internal.Printing.{lines_of}
 use Rattle.bench.proofs.Lines.{lines_none, lines_room, lines_one_more, lines_all}
 use Rattle.bench.proofs.output.print_lines.Goals.{In-loop-i}
 use Rattle.bench.proofs.output.print_lines.Goals as goal
 
--- `let count = line_count(l)`
-pub line_count-count-requires : goal.line_count-count-requires
-line_count-count-requires c =
-    counts_small c.args.file.now c.args.l c.requires.1.sound
-
 pub loop-i-init : goal.loop-i-init
-loop-i-init c =
-    let a = c.args in
-    lines_none (lines a.file.now (program_of a.file.now a.l) a.report.now) a.text.now
+loop-i-init c = lines_none (lines_of c.args.printout.now) c.args.text.now
 
 -- there are as many lines as counted, and not too many for the buffer
-lines_counted : (c : In-loop-i) → let a = c.args in
-    (length (lines a.file.now (program_of a.file.now a.l) a.report.now) ≡ c.line_count-count.result) × (c.line_count-count.result ≤ line_limit)
+lines_counted : (c : In-loop-i) → (length (lines_of c.args.printout.now) ≡ c.line_count-count.result) × (c.line_count-count.result ≤ line_limit)
 lines_counted c =
-    let a = c.args in
+    let p = c.args.printout.now in
+    let file = p.file.now in
+    let sound = file.located.sound in
     let many = c.line_count-count.ensures in
-    (length-lines a.file.now a.l a.report.now c.requires.1.sound ∙ sym many, omega (arith, many, counts_small a.file.now a.l c.requires.1.sound))
+    (length-lines file.bytes.now file.layout p.report.now sound ∙ sym many, omega (arith, many, counts_small file.bytes.now file.layout sound))
 
 -- there is room for the next line
 next_line_room : (c : In-loop-i) → c.loop-i.at + line_size ≤ length c.loop-i.text
 next_line_room c =
     let many = lines_counted c in
-    lines_room c.loop-i.invariant (omega (arith, many.0, c.loop-i-test.true)) (omega (arith, many)) c.requires.3
+    lines_room c.loop-i.invariant (omega (arith, many.0, c.loop-i-test.true)) (omega (arith, many)) c.requires
 
--- `at += write_line(rows, file, l, starts, counts, report, i, &mut text[at..])`
+-- `at += printout.write_line(i, &mut text[at..])`
 pub slice_bounds-write_line-count : goal.slice_bounds-write_line-count
 slice_bounds-write_line-count c = omega (arith, next_line_room ((goal.at.slice_bounds-write_line-count c).In-loop-i))
 
@@ -46,9 +36,6 @@ slice_bounds-write_line-start c = omega (arith, next_line_room ((goal.at.slice_b
 
 pub write_line-at-requires : goal.write_line-at-requires
 write_line-at-requires c = (
-  c.requires.0,
-  c.requires.1,
-  c.requires.2,
   omega (arith, c.line_count-count.ensures, c.loop-i-test.true),
   rw (length-take, length-drop) (omega (arith, next_line_room ((goal.at.write_line-at-requires c).In-loop-i))),
 )
@@ -65,5 +52,7 @@ loop-i-preserved c =
 
 pub returns : goal.returns
 returns c =
-    let all = lines_all c.loop-i.invariant (omega (arith, length-lines c.args.file.now c.args.l c.args.report.now c.requires.1.sound, c.line_count-count.ensures, c.loop-i-test.false)) in
+    let p = c.args.printout.now in
+    let file = p.file.now in
+    let all = lines_all c.loop-i.invariant (omega (arith, length-lines file.bytes.now file.layout p.report.now file.located.sound, c.line_count-count.ensures, c.loop-i-test.false)) in
     record { result = all.0; buffer = all.1 }

@@ -1,8 +1,11 @@
--- `first_bad_thread` meets its contract. Assumes nothing.
-use mathlib.Core.Path.{sym}
+-- `first_bad_thread`: a list whose numbers are all below is searched in vain. Assumes nothing.
+use Rattle.std.proofs.Common.{sym, ◌∙◌}
+use Rattle.hogunlas.proofs.Listed.{all_good}
 use Rattle.hogunlas.proofs.Running.{entries_searched}
 use Rattle.hogunlas.proofs.list.first_bad_thread.Goals as goal
 
--- `return Found::Nowhere`
+-- `return None`
 pub returns-then-all_below : goal.returns-then-all_below
-returns-then-all_below c = sym (entries_searched _ c.args.list.now (c.all_below.ensures c.if-all_below.true))
+returns-then-all_below c =
+    let below = all_good c.args.threads c.args.list.now (sym c.all_below.ensures ∙ c.if-all_below.true) in
+    sym (entries_searched c.args.threads c.args.list.now below)

@@ -1,38 +1,33 @@
 -- `judge_file` meets its contract. Assumes nothing.
-use native.Mathlib.Omega.{arith}
-use mathlib.Core.Path.{sym, ap, ◌∙◌}
-use Rattle.program.specs.Internal.Answered.{reading_answer}
-use Rattle.program.proofs.MarkedParts.{sound_marked}
+use Rattle.std.proofs.Common.{arith, sym}
+use Rattle.std.proofs.lemmas.Result.{err_from_is_err_and}
 use Rattle.program.proofs.Sound.{sound_file}
 use Rattle.judge.proofs.Accepting.{report_length_small, read_refused, file_refused, file_accepted}
 use Rattle.judge.proofs.judging.judge_file.Goals as goal
 
--- `find_sections(file, l, &mut *starts, &mut *counts)`
-pub find_sections-requires : goal.find_sections-requires
-find_sections-requires c = (sound_file c.args.file.now _ (sym c.read-reading.ensures.0 ∙ ap reading_answer c.in-Sound.is), c.requires.1, c.requires.2)
+pub returns-in_err-layout : goal.returns-in_err-layout
+returns-in_err-layout c =
+    let p = err_from_is_err_and c.from_residual.result c.from_residual.ensures.1 in
+    rw (p.1, p.2) (read_refused c.args.bytes.now _ (sym c.in_err-layout.ensures.0))
 
--- `let verdict = walk_codes(rows, file, l, &*starts, &*counts, &writers, &mut *report)`
-pub walk_codes-verdict-requires : goal.walk_codes-verdict-requires
-walk_codes-verdict-requires c =
-    let start = c in (
-      start.requires.0,
-      c.find_sections.ensures,
-      start.requires.3,
-      sound_marked _ _ _ _ _ c.in-Sound.is c.read-reading.ensures.1,
-    )
+pub locate-file-requires : goal.locate-file-requires
+locate-file-requires c = sound_file c.args.bytes.now _ (sym c.in_ok-layout.ensures.0)
+
+pub walk_codes-requires : goal.walk_codes-requires
+walk_codes-requires c =
+    (c.requires, rw (c.locate-file.ensures.0, c.locate-file.ensures.1) c.in_ok-layout.ensures.1)
 
 pub overflow_add-result : goal.overflow_add-result
-overflow_add-result c = omega (arith, report_length_small c.args.file.now c.in-Sound.l (sym c.read-reading.ensures.0 ∙ ap reading_answer c.in-Sound.is))
+overflow_add-result c = omega (arith, report_length_small c.args.bytes.now c.in_ok-layout.layout (sym c.in_ok-layout.ensures.0))
 
-pub returns-in-Refused : goal.returns-in-Refused
-returns-in-Refused c = read_refused c.args.file.now _ (sym c.read-reading.ensures.0 ∙ ap reading_answer c.in-Refused.is)
+pub returns-in_err-walk_codes : goal.returns-in_err-walk_codes
+returns-in_err-walk_codes c =
+    let p = err_from_is_err_and c.from_residual-in_err-walk_codes.result c.from_residual-in_err-walk_codes.ensures.1 in
+    rw (p.1, p.2)
+    (file_refused c.args.bytes.now c.in_ok-layout.layout (sym c.in_ok-layout.ensures.0) c.args.report.now _
+    (rw (c.locate-file.ensures.0, c.locate-file.ensures.1) at c.in_err-walk_codes.ensures))
 
-pub returns-in-Refused-verdict : goal.returns-in-Refused-verdict
-returns-in-Refused-verdict c =
-    file_refused c.args.file.now c.in-Sound.l (sym c.read-reading.ensures.0 ∙ ap reading_answer c.in-Sound.is) _ _ c.find_sections.ensures c.args.report.now _
-    (rw c.in-Refused-verdict.is at c.walk_codes-verdict.ensures)
-
-pub returns-in-Allowed : goal.returns-in-Allowed
-returns-in-Allowed c =
-    file_accepted c.args.file.now c.in-Sound.l (sym c.read-reading.ensures.0 ∙ ap reading_answer c.in-Sound.is) _ _ c.find_sections.ensures c.args.report.now _ c.requires.3
-    (rw c.in-Allowed.is at c.walk_codes-verdict.ensures)
+pub returns : goal.returns
+returns c =
+    file_accepted c.args.bytes.now c.in_ok-layout.layout (sym c.in_ok-layout.ensures.0) c.args.report.now _ c.locate-file.result c.locate-file.ensures.0 c.locate-file.ensures.1 c.requires
+    (rw (c.locate-file.ensures.0, c.locate-file.ensures.1) at c.in_ok-walk_codes.ensures)

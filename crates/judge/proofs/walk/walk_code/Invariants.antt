@@ -1,17 +1,12 @@
--- `walk_code`: the scan from this place on is the whole one, with the frames in the array. Assumes nothing.
-use Prim.Native.Nat.{◌-◌, ◌<◌}
-use lib.ListN.{length}
-use Rattle.program.specs.Internal.Sections.{Located}
-use Rattle.program.specs.declared.layout.Layout.{Layout}
-use Rattle.judge.specs.Internal.Rule.{RuleTables}
+-- `walk_code`: the scan from this place on is the whole one. Assumes nothing.
+use Rattle.std.proofs.Common.{◌<◌}
+use Rattle.judge.specs.Internal.Scan.{seen}
 use Rattle.judge.proofs.ScanLoop.{Scanning}
 use Rattle.judge.proofs.walk.walk_code.Given as goal
 
 abbrev pub invariant-loop-p : goal.invariant-loop-p
 invariant-loop-p l =
-    (k : Layout) → Located l.s k l.c.start l.c.count l.c.number → RuleTables l.s k l.c.number l.reads l.writes → 0 < length l.initial.report
-    → Scanning l.s k l.c.number l.c.start l.c.count l.c.first l.initial.report l.report l.frames l.depth l.locks l.sofar l.p
-
-abbrev pub decreases-loop-p : goal.decreases-loop-p
-decreases-loop-p l =
-    l.c.count - l.p
+    let r = l.rules in
+    let f = r.file.now in
+    (is_code : r.code < f.layout.threads)
+    → Scanning f.bytes.now f.layout f.starts f.counts f.located r.code is_code l.first l.initial.report (seen l.walk l.report) l.p

@@ -1,16 +1,11 @@
 -- `instruction_line` meets its contract. Assumes nothing.
-use Prim.Native.Nat.{◌≤◌}
-use native.Mathlib.Omega.{arith}
-use Rattle.program.specs.Limits.{line_size}
-use Rattle.printout.specs.Line.{instruction_line}
-use Rattle.printout.proofs.Stored.{line_several, line_with, line_last, line_written}
+use Rattle.std.proofs.Common.{[], ◌∷◌, append_assoc}
+use Rattle.printout.specs.Text.{ascii}
+use Rattle.printout.specs.Line.{instruction_line, instruction_words, letter}
+use Rattle.printout.specs.Internal.Writing.{blanked}
+use Rattle.printout.proofs.Said.{blanked_append}
 use Rattle.printout.proofs.line.instruction_line.Goals as goal
 
 pub returns : goal.returns
-unfolding instruction_line
-returns c =
-    let size : c.letter_at.result ≤ line_size = omega (arith, c.instruction_fields-next.ensures.value, c.short_at-next.ensures.upper_bound, c.instruction_words-next.ensures.upper_bound, c.letter_at.ensures.upper_bound) in
-    line_written size c.requires.2
-    (line_several c.instruction_fields-next.ensures.laid_words
-    (line_with c.short_at-next.ensures.laid_word c.instruction_words-next.ensures.laid_words
-    (line_last c.letter_at.ensures.laid_word)))
+unfolding blanked ascii instruction_line
+returns c = c.write.ensures _ _ (simp (c.letter.ensures.word, c.instruction.ensures.words, c.number.ensures.word, c.raw-4.ensures.word, c.raw-3.ensures.word, c.raw-2.ensures.word, c.raw.ensures.word, c.new-line.ensures, blanked_append (instruction_words c.args.i) (letter c.args.byte ∷ []), append_assoc))

@@ -1,15 +1,10 @@
 -- `thread_line` meets its contract. Assumes nothing.
-use native.Mathlib.Omega.{arith}
+use Rattle.std.proofs.Common.{append_assoc}
 use Rattle.printout.specs.Text.{ascii}
 use Rattle.printout.specs.Internal.Item.{thread_line}
-use Rattle.printout.proofs.Stored.{line_more, line_last, line_written}
+use Rattle.printout.specs.Internal.Writing.{blanked}
 use Rattle.printout.proofs.line.thread_line.Goals as goal
 
 pub returns : goal.returns
-unfolding ascii thread_line
-returns c =
-    line_written (omega (arith, c.raw_at-next.ensures.value, c.copy_at-next.ensures.value, c.short_at-next.ensures.upper_bound, c.copy_at-next-2.ensures.value, c.short_at.ensures.upper_bound)) c.requires.3 (line_more c.raw_at-next.ensures.laid_word
-    (line_more c.copy_at-next.ensures.laid_word
-    (line_more c.short_at-next.ensures.laid_word
-    (line_more c.copy_at-next-2.ensures.laid_word
-    (line_last c.short_at.ensures.laid_word)))))
+unfolding blanked ascii thread_line
+returns c = c.write.ensures _ _ (simp (c.number-2.ensures.word, c.name-2.ensures.word, c.number.ensures.word, c.name.ensures.word, c.raw.ensures.word, c.new-line.ensures, append_assoc))

@@ -1,26 +1,12 @@
--- `variable_line` meets its contract: an initial value has at most ten digits. Assumes nothing.
-use Prim.Native.Nat.{◌<◌, ◌≤◌, ◌^◌}
-use native.Mathlib.Omega.{arith}
-use Rattle.program.specs.Limits.{line_size}
-use Rattle.printout.specs.Text.{ascii}
-use Rattle.printout.specs.Line.{numbered}
+-- `variable_line` meets its contract. Assumes nothing.
+use Rattle.std.proofs.Common.{[], ◌∷◌, append_assoc}
+use Rattle.printout.specs.Text.{ascii, decimal}
+use Rattle.printout.specs.Line.{numbered, kind_words}
 use Rattle.printout.specs.Internal.Writing.{lettered}
-use Rattle.printout.proofs.Digits.{decimal_length}
-use Rattle.printout.proofs.Stored.{line_several, line_with, line_last, line_written}
+use Rattle.printout.specs.Internal.Writing.{blanked}
+use Rattle.printout.proofs.Said.{blanked_append}
 use Rattle.printout.proofs.line.variable_line.Goals as goal
 
--- `number_at(out, next, initial as usize, b'\n')`
-pub number_at-requires : goal.number_at-requires
-number_at-requires c =
-    let h : c.args.initial < 10 ^ 10 = omega (arith, c.ranges.initial) in
-    omega (arith, decimal_length 9 c.args.initial h, c.kind_words-next, c.lettered_at-next, c.record_fields-next, c.requires)
-
 pub returns : goal.returns
-unfolding ascii numbered lettered
-returns c =
-    let h : c.args.initial < 10 ^ 10 = omega (arith, c.ranges.initial) in
-    let size : c.number_at.result ≤ line_size = omega (arith, decimal_length 9 c.args.initial h, c.record_fields-next.ensures.value, c.lettered_at-next.ensures.upper_bound, c.kind_words-next.ensures.upper_bound, c.number_at.ensures.value) in
-    line_written size c.requires.1
-    (line_several c.record_fields-next.ensures.laid_words
-    (line_with c.lettered_at-next.ensures.laid_word c.kind_words-next.ensures.laid_words
-    (line_last c.number_at.ensures.laid_word)))
+unfolding blanked ascii numbered lettered
+returns c = c.write.ensures _ _ (simp (c.number.ensures.word, c.kind.ensures.words, c.lettered.ensures.word, c.raw-3.ensures.word, c.raw-2.ensures.word, c.raw.ensures.word, c.new-line.ensures, blanked_append (kind_words c.args.kind) (decimal c.args.initial ∷ []), append_assoc))

@@ -1,7 +1,12 @@
 -- `instruction_at` meets its contract. Assumes nothing.
+use mathlib.Core.Path.{◌∙◌}
 use Rattle.program.specs.Instruction.{decode_at}
+use Rattle.program.proofs.Decode.{row_instruction, row_registers}
 use Rattle.program.proofs.instruction.instruction_at.Goals as goal
 
 pub returns : goal.returns
 unfolding decode_at
-returns c locks variables valid = c.instruction_of.ensures locks variables _ c.row_of.ensures.0 valid
+returns c locks variables valid = (
+  c.instruction.ensures ∙ row_instruction locks variables _ _ _ _ valid c.of.result c.of.ensures,
+  rw c.instruction.ensures (row_registers locks variables _ _ _ _ valid c.of.result c.of.ensures),
+)
