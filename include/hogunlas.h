@@ -31,7 +31,7 @@ extern "C" {
 
 /* The version of the standard. (HOGUNLAS_VERSION is a refusal: the version of a file.) */
 #define HOGUNLAS_STANDARD_MAJOR 1
-#define HOGUNLAS_STANDARD_MINOR 3
+#define HOGUNLAS_STANDARD_MINOR 4
 
 /* The limits. */
 #define HOGUNLAS_MAX_FILE 33173  /* bytes of the largest file that is not refused */

@@ -42,7 +42,7 @@ use std::ops::Add;
 pub const STANDARD_MAJOR: u32 = 1;
 
 /// The version of the standard that the calls follow: the number after the point.
-pub const STANDARD_MINOR: u32 = 3;
+pub const STANDARD_MINOR: u32 = 4;
 
 /// The length of the largest file that is not refused.
 pub const MAX_FILE: usize = 33_173;

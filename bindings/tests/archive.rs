@@ -103,7 +103,7 @@ fn the_structs_are_the_headers() {
     assert_compiled(&compile(&program, &["-fsyntax-only"]));
 }
 
-/// The version that the standard gives itself, by its line `Version 1.3.`.
+/// The version that the standard gives itself, by its line `Version 1.4.`.
 fn standard_version() -> String {
     let page = Path::new(env!("CARGO_MANIFEST_DIR")).join("../docs/STANDARD.md");
     let text = fs::read_to_string(page).expect("docs/STANDARD.md");

@@ -19,7 +19,9 @@ const SIXTEEN_OPEN: &[u8] = &[
     1,
 ];
 
-const EVERY_NAME: &[u8] = &[1, 1, 1, 1, 1, 3, 1, 2, 1, 1, 4, 1, 1, 0, 0, 1, 0, 1, 0, 5];
+const EVERY_NAME: &[u8] = &[
+    1, 1, 1, 1, 1, 1, 1, 3, 1, 2, 1, 1, 4, 1, 1, 0, 0, 1, 0, 1, 0, 5,
+];
 
 /// The files of `examples/cases/`, whose README says what each one shows.
 const ANSWERS: [(&str, Answer); 46] = [
@@ -236,6 +238,32 @@ mod run {
         assert_eq!(registers[4..8], [0, 0, 0, 1]);
         assert_eq!(registers[8..12], [0xFF; 4]);
         assert_eq!(registers[12..16], [0; 4]);
+    }
+
+    /// -1 times 50 is -1, and -1 times 49 is 0; -1 is below 0.
+    #[test]
+    fn signed_hundredths_go_below_zero() {
+        let own_minus_1 = [1, 0, 0xFF, 0xFF, 0xFF, 0xFF];
+        let (left, right) = (0, 1);
+        let code = [
+            Read { to: 0, variable: 0 },
+            Set { to: 1, number: 50 },
+            Mulh { to: 2, left, right },
+            Set { to: 1, number: 49 },
+            Mulh { to: 3, left, right },
+            Lesss {
+                to: 4,
+                left,
+                right: 3,
+            },
+        ];
+        let file = encode_file(0, &[own_minus_1], &[code]);
+        let (counted, state) = run("below zero", &file, &[0; 6]).expect("an answer");
+        assert_eq!(counted, counts([(6, 0, 0)]));
+        let registers = &state[6..];
+        assert_eq!(registers[8..12], [0xFF; 4]);
+        assert_eq!(registers[12..16], [0; 4]);
+        assert_eq!(registers[16..20], [0, 0, 0, 1]);
     }
 }
 

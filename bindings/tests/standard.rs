@@ -71,20 +71,27 @@ impl Answers for Library {
 
 #[test]
 fn every_block_is_what_the_calls_answer() {
-    assert!(examples::blocks(&Page::read(), &Library) >= 10);
+    assert!(examples::blocks(&Page::read(), &Library) >= 12);
 }
 
 #[test]
 fn every_table_of_answers_is_what_the_calls_answer() {
     let page = Page::read();
     assert!(examples::judged_tables(&page, &Library) >= 116);
-    assert!(examples::run_table(&page, &Library) >= 10);
+    assert!(examples::run_table(&page, &Library) >= 17);
+}
+
+#[test]
+fn signed_hundredths_are_as_the_tables_say() {
+    let page = Page::read();
+    assert!(examples::multiplied_table(&page, &Library) >= 15);
+    assert!(examples::compared_table(&page, &Library) >= 8);
 }
 
 #[test]
 fn fields_records_and_accesses_are_refused_as_the_tables_say() {
     let page = Page::read();
-    assert_eq!(examples::op_table(&page, &Library), 15);
+    assert_eq!(examples::op_table(&page, &Library), 17);
     assert!(examples::kind_table(&page, &Library) >= 1_000);
     assert_eq!(examples::access_table(&page, &Library), 4 * 2 * 4);
 }

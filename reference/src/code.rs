@@ -18,7 +18,7 @@ pub(crate) struct Limits {
 /// once it is known to be good and well nested; closers come with their opener's place. What has
 /// to be known of the whole file first is found before, as the module `writers` does.
 pub(crate) trait Visitor {
-    /// SET, COPY, ADD, SUB, LESS.
+    /// SET, COPY, ADD, SUB, LESS, MULH, LESSS.
     fn calculation(&mut self, place: usize);
     fn read(&mut self, place: usize, variable: u8);
     fn write(&mut self, place: usize, variable: u8);

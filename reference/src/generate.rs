@@ -10,6 +10,7 @@ mod lists;
 mod program;
 mod rng;
 mod statement;
+mod value;
 mod writer;
 
 pub use damage::{damaged_file, nearly_accepted_file};
@@ -18,6 +19,7 @@ pub use lists::{good_list, list, longest_list};
 pub use program::encode_file;
 pub use rng::Rng;
 pub use statement::{atomics, without_statements, AtomicSite};
+pub use value::operands;
 
 use program::{Source, Style};
 

@@ -18,6 +18,7 @@
 //! | `access` | "Lock discipline", "Rules": the kinds of variables | – |
 //! | `judging` | "Lock discipline", "Atomicities": the rules | 9 to 13, 18 |
 //! | [`judge`](mod@judge) | "Atomicities": the report | 16 |
+//! | [`hundredths`] | "Signed hundredths": what MULH and LESSS put | – |
 //! | [`machine`] | "The step machine" | 14 to 16 |
 //! | [`printout`] | "Line and bench": which line is about what | 17, 16 |
 //! | `text` | "Line and bench": a line's text | – |
@@ -38,6 +39,7 @@ mod access;
 pub mod atomicity;
 mod code;
 pub mod generate;
+pub mod hundredths;
 pub mod instruction;
 pub mod judge;
 mod judging;

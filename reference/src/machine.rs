@@ -4,6 +4,7 @@
 use std::iter::Sum;
 use std::ops::Add;
 
+use crate::hundredths;
 use crate::instruction::Instruction::{self, Atomic};
 use crate::instruction::REGISTERS;
 use crate::op::{self, Word};
@@ -198,6 +199,8 @@ impl State {
             op::ADD => thread.set(a, thread.get(b).wrapping_add(thread.get(c))),
             op::SUB => thread.set(a, thread.get(b).wrapping_sub(thread.get(c))),
             op::LESS => thread.set(a, u32::from(thread.get(b) < thread.get(c))),
+            op::MULH => thread.set(a, hundredths::multiply(thread.get(b), thread.get(c))),
+            op::LESSS => thread.set(a, hundredths::less(thread.get(b), thread.get(c))),
             op::READ => thread.set(a, self.variables[usize::from(b) % MAX_VARIABLES]),
             op::WRITE => self.variables[usize::from(b) % MAX_VARIABLES] = thread.get(a),
             op::TAKE => {

@@ -9,6 +9,8 @@ pub const COPY: u8 = 0x02;
 pub const ADD: u8 = 0x03;
 pub const SUB: u8 = 0x04;
 pub const LESS: u8 = 0x05;
+pub const MULH: u8 = 0x07;
+pub const LESSS: u8 = 0x08;
 pub const READ: u8 = 0x10;
 pub const WRITE: u8 = 0x11;
 pub const TAKE: u8 = 0x20;
@@ -105,6 +107,8 @@ const fn rows() -> [Row; 256] {
     rows[ADD as usize] = Row::new(Form::Calculation, Register, Register, Register);
     rows[SUB as usize] = Row::new(Form::Calculation, Register, Register, Register);
     rows[LESS as usize] = Row::new(Form::Calculation, Register, Register, Register);
+    rows[MULH as usize] = Row::new(Form::Calculation, Register, Register, Register);
+    rows[LESSS as usize] = Row::new(Form::Calculation, Register, Register, Register);
     rows[READ as usize] = Row::new(Form::Read, Register, Name, Unused);
     rows[WRITE as usize] = Row::new(Form::Write, Register, Name, Unused);
     rows[TAKE as usize] = Row::new(Form::Take, Name, Unused, Unused);

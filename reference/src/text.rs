@@ -130,6 +130,8 @@ impl Text<'_> {
             op::ADD => self.push(b" ADD").register(a).register(b).register(c),
             op::SUB => self.push(b" SUB").register(a).register(b).register(c),
             op::LESS => self.push(b" LESS").register(a).register(b).register(c),
+            op::MULH => self.push(b" MULH").register(a).register(b).register(c),
+            op::LESSS => self.push(b" LESSS").register(a).register(b).register(c),
             op::READ => self
                 .push(b" READ")
                 .register(a)

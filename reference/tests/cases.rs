@@ -228,6 +228,97 @@ fn while_around_take_give_is_refused_within_a_block() {
     assert_eq!(report(OPEN, &code), refused(13, offset(5)));
 }
 
+// Signed hundredths.
+
+const MULH: Instruction = Mulh {
+    to: 2,
+    left: 0,
+    right: 1,
+};
+const LESSS: Instruction = Lesss {
+    to: 2,
+    left: 0,
+    right: 1,
+};
+const LESS: Instruction = Less {
+    to: 2,
+    left: 0,
+    right: 1,
+};
+
+/// The first registers after some instructions, where r0 and r1 hold these signed values.
+fn registers_after(operands: [i32; 2], instructions: &[Instruction]) -> [u32; 3] {
+    let fixed = operands.map(|operand| {
+        let [w, x, y, z] = operand.to_be_bytes();
+        [2, 0, w, x, y, z]
+    });
+    let read = |variable| Read {
+        to: variable,
+        variable,
+    };
+    let code = [&[read(0), read(1)], instructions].concat();
+    let list = vec![0; code.len()];
+    let (counted, state) = run_in(42, &file(0, &fixed, &[&code]), &list, 42).unwrap();
+    assert_eq!(counted, counts(&[[code.len() as u64, 0, 0]]));
+    [10, 14, 18].map(|at| u32::from_be_bytes(state[at..at + 4].try_into().unwrap()))
+}
+
+#[test]
+fn mulh_multiplies_hundredths() {
+    for (left, right, product) in [
+        (150, 150, 225),
+        (-1, 50, -1),
+        (-1, 49, 0),
+        (i32::MAX, 101, i32::MAX),
+        (i32::MIN, 101, i32::MIN),
+    ] {
+        let [.., found] = registers_after([left, right], &[MULH]);
+        assert_eq!(found as i32, product, "{left} times {right}");
+    }
+}
+
+#[test]
+fn lesss_compares_signed_values() {
+    for (left, right, lesss, less) in [(-1, 0, 1, 0), (0, -1, 0, 1), (-2, -1, 1, 1), (1, 1, 0, 0)] {
+        let results = [LESSS, LESS].map(|instruction| {
+            let [.., found] = registers_after([left, right], &[instruction]);
+            found
+        });
+        assert_eq!(results, [lesss, less], "{left} and {right}");
+    }
+}
+
+/// "The same register may be named more than once in an instruction: all operands are read before the
+/// result is put."
+#[test]
+fn operands_are_read_before_the_result_is_put() {
+    let mulh = |to, left, right| Mulh { to, left, right };
+    let lesss = |to, left, right| Lesss { to, left, right };
+    for (instruction, registers) in [
+        (mulh(0, 0, 1), [-2, 50, 0]),
+        (mulh(1, 0, 1), [-3, -2, 0]),
+        (mulh(1, 1, 1), [-3, 25, 0]),
+        (lesss(0, 0, 1), [1, 50, 0]),
+        (lesss(1, 0, 1), [-3, 1, 0]),
+        (lesss(1, 1, 1), [-3, 0, 0]),
+    ] {
+        let found = registers_after([-3, 50], &[instruction]);
+        assert_eq!(
+            found.map(|value| value as i32),
+            registers,
+            "{instruction:?}"
+        );
+    }
+}
+
+/// "Both are plain": B, in a block and outside.
+#[test]
+fn signed_hundredths_are_both_movers() {
+    assert_eq!(report(OPEN, &[MULH, LESSS]), Ok(vec![1, 1, 1]));
+    let within = block(&[TAKE, MULH, LESSS, GIVE, MULH]);
+    assert_eq!(report(OPEN, &within), Ok(vec![4, 3, 1, 1, 2, 1, 0, 4]));
+}
+
 // What a block states.
 
 /// A block that states a report byte.
@@ -580,21 +671,47 @@ fn statements() -> String {
 
 /// A thread at place 6 with 3 in r0 and 5 in r1 after a step of this code, where v0 is 9.
 fn moved(name: &str, code: &[Instruction]) -> String {
-    let file = file(1, &[[2, 0, 0, 0, 0, 9]], &[code]);
-    let program = Program::read_accepted(&file).unwrap();
-    let mut state = State::start(&program);
     let registers = [3, 5, 0, 0, 0, 0, 0, 0];
-    state.threads[0] = Thread {
+    let before = Thread {
         place: 6,
         registers,
     };
+    moved_from(before, name, code)
+}
+
+fn moved_from(before: Thread, name: &str, code: &[Instruction]) -> String {
+    let file = file(1, &[[2, 0, 0, 0, 0, 9]], &[code]);
+    let program = Program::read_accepted(&file).unwrap();
+    let mut state = State::start(&program);
+    state.threads[0] = before;
     assert_eq!(state.step(&program, 0), Outcome::Moved);
     let Thread { place, registers } = state.threads[0];
     let registers: String = registers.iter().map(|value| format!(" {value}")).collect();
     format!("{name}: place {place}, registers{registers}\n")
 }
 
-/// What `crates/cases` prints of moves, each of the instruction at place 6.
+/// What `crates/cases` prints of moves of signed instructions, each at place 0 with -1, 50, 49 and 150
+/// in the first registers.
+fn signed_moves() -> String {
+    let before = Thread {
+        place: 0,
+        registers: [u32::MAX, 50, 49, 150, 0, 0, 0, 0],
+    };
+    let to = 4;
+    let at_0 = |name, instruction| moved_from(before, name, &[instruction]);
+    let mulh = |left, right| Mulh { to, left, right };
+    let (left, right) = (0, 1);
+    [
+        at_0("MULH r4 r3 r3", mulh(3, 3)),
+        at_0("MULH r4 r0 r1", mulh(0, 1)),
+        at_0("MULH r4 r0 r2", mulh(0, 2)),
+        at_0("LESSS r4 r0 r1", Lesss { to, left, right }),
+        at_0("LESS r4 r0 r1", Less { to, left, right }),
+    ]
+    .concat()
+}
+
+/// What `crates/cases` prints of moves, each of the instruction at place 6 but for the signed ones.
 fn moves() -> String {
     let plain = |n| vec![Set { to: 0, number: 0 }; n];
     let at_6 = |name, rest: Vec<Instruction>| moved(name, &[plain(6), rest].concat());
@@ -610,6 +727,7 @@ fn moves() -> String {
         at_6("SUB r2 r1 r0", sub(1, 0)),
         at_6("SUB r2 r0 r1", sub(0, 1)),
         at_6("READ r7 v0", v0),
+        signed_moves(),
         at_6("IF r0 4", choice(&plain(3), &[])),
         at_6("WHILE r2 4", tests_r2),
         moved("ELSE 4", &else_at_6),
@@ -671,23 +789,25 @@ fn every_instruction_is_printed_with_its_fields() {
         "03 01 02 03 2 ADD r1 r2 r3 B",
         "04 04 05 06 3 SUB r4 r5 r6 B",
         "05 00 01 02 4 LESS r0 r1 r2 B",
-        "10 03 01 00 5 READ r3 v1 B",
-        "11 03 01 00 6 WRITE r3 v1 A",
-        "30 04 00 02 7 IF r4 2 B",
-        "01 00 00 00 8 SET r0 0 B",
-        "31 00 00 01 9 ELSE 1 -",
-        "35 00 00 00 10 END -",
-        "32 05 00 01 11 WHILE r5 1 B",
-        "33 00 00 01 12 AGAIN 1 -",
-        "34 00 00 01 13 ATOMIC 1 B",
-        "35 00 00 00 14 END -",
-        "34 01 00 01 15 ATOMIC 1 B B",
+        "07 05 06 07 5 MULH r5 r6 r7 B",
+        "08 07 00 01 6 LESSS r7 r0 r1 B",
+        "10 03 01 00 7 READ r3 v1 B",
+        "11 03 01 00 8 WRITE r3 v1 A",
+        "30 04 00 02 9 IF r4 2 B",
+        "01 00 00 00 10 SET r0 0 B",
+        "31 00 00 01 11 ELSE 1 -",
+        "35 00 00 00 12 END -",
+        "32 05 00 01 13 WHILE r5 1 B",
+        "33 00 00 01 14 AGAIN 1 -",
+        "34 00 00 01 15 ATOMIC 1 B",
         "35 00 00 00 16 END -",
+        "34 01 00 01 17 ATOMIC 1 B B",
+        "35 00 00 00 18 END -",
     ];
-    let mut file = hex("01 00 01 00 0C 02 00 00 00 00 09 03 00 80 00 00 00 00 44");
+    let mut file = hex("01 00 01 00 0C 02 00 00 00 00 09 03 00 80 00 00 00 00 4C");
     code.iter().for_each(|line| file.extend(hex(&line[..11])));
     let head = "01 version 1\n00 locks 0\n01 threads 1\n000C variables 2\n\
-        02 00 00000009 v0 fixed 9\n03 00 80000000 v1 open 2147483648\n0044 thread 0 code 17\n";
+        02 00 00000009 v0 fixed 9\n03 00 80000000 v1 open 2147483648\n004C thread 0 code 19\n";
     let printed = String::from_utf8(bench(&file)).unwrap();
     assert_eq!(printed, format!("{head}{}\nthread 0 A\n", code.join("\n")));
 }

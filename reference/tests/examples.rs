@@ -30,7 +30,7 @@ fn have_their_printouts(folder: &str, least: usize) {
 
 #[test]
 fn every_station_program_has_its_printout() {
-    have_their_printouts("../examples", 10);
+    have_their_printouts("../examples", 11);
 }
 
 #[test]

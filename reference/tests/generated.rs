@@ -354,7 +354,7 @@ fn accepted_files_are_rich() {
             at += 1;
         }
     }
-    assert_eq!(seen.len(), 24, "{seen:?}");
+    assert_eq!(seen.len(), 26, "{seen:?}");
     assert!(seen.values().all(|&count| count > 100), "{seen:?}");
 }
 
@@ -381,6 +381,8 @@ fn describe(program: &Program, instruction: Instruction) -> &'static str {
             Kind::Open => "WRITE open",
         },
         Set { .. } => "SET",
+        Mulh { .. } => "MULH",
+        Lesss { .. } => "LESSS",
         _ => "calculation",
     }
 }

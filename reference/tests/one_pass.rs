@@ -54,13 +54,15 @@ const STATEMENT: usize = 5;
 const UNUSED: usize = 1;
 
 /// The standard's table of op codes: the values below these are good in the fields a, b, c.
-fn good_values(locks: usize, variables: usize) -> [(u8, [usize; 3]); 15] {
+fn good_values(locks: usize, variables: usize) -> [(u8, [usize; 3]); 17] {
     [
         (0x01, [REGISTER, ANY, ANY]),
         (0x02, [REGISTER, REGISTER, UNUSED]),
         (0x03, [REGISTER, REGISTER, REGISTER]),
         (0x04, [REGISTER, REGISTER, REGISTER]),
         (0x05, [REGISTER, REGISTER, REGISTER]),
+        (0x07, [REGISTER, REGISTER, REGISTER]),
+        (0x08, [REGISTER, REGISTER, REGISTER]),
         (0x10, [REGISTER, variables, UNUSED]),
         (0x11, [REGISTER, variables, UNUSED]),
         (0x20, [locks, UNUSED, UNUSED]),

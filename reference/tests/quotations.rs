@@ -24,7 +24,7 @@ fn files(folder: &Path, found: &mut Vec<PathBuf>) {
     for path in paths {
         if !path.is_dir() {
             found.push(path);
-        } else if !path.ends_with("target") {
+        } else if !path.ends_with("target") && !path.ends_with("out") {
             files(&path, found);
         }
     }

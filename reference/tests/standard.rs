@@ -37,10 +37,12 @@ impl Answers for Reimplementation {
 }
 
 /// The heads of all tables: those that are compared with something, then those for the reader.
-const COMPARED: [&str; 21] = [
+const COMPARED: [&str; 23] = [
     "limit | figure | how it is made up",
     "kind | name | g | who may use it",
     "op | name | a | b | c | what it does",
+    "b | c | product divided by 100 | MULH | register a | tells apart",
+    "b | c | LESSS | LESS",
     "broken | code | answer",
     "kind | READ | WRITE",
     "letter | report byte | name | meaning",
@@ -92,7 +94,7 @@ fn every_kind_of_block_is_said_how_to_read_and_shown() {
 #[test]
 fn every_block_is_what_the_calls_answer() {
     let page = Page::read();
-    assert!(examples::blocks(&page, &Reimplementation) >= 10);
+    assert!(examples::blocks(&page, &Reimplementation) >= 12);
     for (file, printed) in examples::printouts(&page) {
         assert_eq!(bench(&file), printed.as_bytes());
     }
@@ -102,13 +104,21 @@ fn every_block_is_what_the_calls_answer() {
 fn every_table_of_answers_is_what_the_calls_answer() {
     let page = Page::read();
     assert!(examples::judged_tables(&page, &Reimplementation) >= 116);
-    assert!(examples::run_table(&page, &Reimplementation) >= 10);
+    assert!(examples::run_table(&page, &Reimplementation) >= 17);
+}
+
+/// What a row tells apart is compared in `hundredths.rs`, where the mistakes are.
+#[test]
+fn signed_hundredths_are_as_the_tables_say() {
+    let page = Page::read();
+    assert!(examples::multiplied_table(&page, &Reimplementation) >= 15);
+    assert!(examples::compared_table(&page, &Reimplementation) >= 8);
 }
 
 #[test]
 fn fields_records_and_accesses_are_refused_as_the_tables_say() {
     let page = Page::read();
-    assert_eq!(examples::op_table(&page, &Reimplementation), 15);
+    assert_eq!(examples::op_table(&page, &Reimplementation), 17);
     assert!(examples::kind_table(&page, &Reimplementation) >= 1_000);
     assert_eq!(examples::access_table(&page, &Reimplementation), 4 * 2 * 4);
 }
@@ -404,7 +414,7 @@ fn the_steps_are_the_machines() {
 fn the_places_afterwards_are_the_machines() {
     let page = Page::read();
     let table = page.table("instruction | registers, variables, locks | place afterwards");
-    assert_eq!(table.rows.len(), 15);
+    assert_eq!(table.rows.len(), 17);
     for row in &table.rows {
         let name = row[0].split(' ').next().expect("a name");
         let (code, at, n): (&str, u16, u16) = match name {
@@ -440,6 +450,8 @@ fn plain_code(name: &str) -> (&'static str, u16, u16) {
         "ADD" => ("SET r0 0, ADD r0 r1 r2", 1, 0),
         "SUB" => ("SET r0 0, SUB r0 r1 r2", 1, 0),
         "LESS" => ("SET r0 0, LESS r0 r1 r2", 1, 0),
+        "MULH" => ("SET r0 0, MULH r0 r1 r2", 1, 0),
+        "LESSS" => ("SET r0 0, LESSS r0 r1 r2", 1, 0),
         "READ" => ("SET r0 0, READ r0 v0", 1, 0),
         "WRITE" => ("SET r0 0, WRITE r0 v0", 1, 0),
         "TAKE" => ("SET r0 0, TAKE k0, GIVE k0", 1, 0),
@@ -603,12 +615,15 @@ fn the_version_stands_first_and_in_the_last_table() {
     assert_eq!(version, Some(newest[0].as_str()));
 }
 
-/// The example that other tests, the C program and the README use.
+/// The example that other tests, the C program and the README use; and the mean below zero.
 #[test]
-fn the_stored_example_is_the_pages() {
-    let stored = concat!(env!("CARGO_MANIFEST_DIR"), "/../examples/standard.bin");
-    let stored = std::fs::read(stored).expect("examples/standard.bin");
-    assert_eq!(named_file(&Page::read(), "standard"), stored);
+fn the_stored_examples_are_the_pages() {
+    let page = Page::read();
+    let examples = concat!(env!("CARGO_MANIFEST_DIR"), "/../examples");
+    for (stored, name) in [("standard", "standard"), ("below_zero", "mean")] {
+        let stored = std::fs::read(format!("{examples}/{stored}.bin")).expect(stored);
+        assert_eq!(named_file(&page, name), stored, "{name}");
+    }
 }
 
 /// Whether a check of the page fails where it says something wrong instead of these words.
@@ -728,5 +743,35 @@ fn wrong_counts_on_the_page_fail() {
         "| moved 3, waiting 1, idle 0 |",
     ] {
         assert!(fails_with(&page, cell, wrong, runs), "{wrong}");
+    }
+}
+
+/// What MULH and LESSS give is compared, and so is each number that leads to it.
+#[test]
+fn wrong_hundredths_on_the_page_fail() {
+    let page = Page::read();
+    let multiplied = |page: &Page| {
+        examples::multiplied_table(page, &Reimplementation);
+    };
+    let row = "| -1 | 50 | -0.5 | -1 | 4294967295 |";
+    for wrong in [
+        "| -1 | 49 | -0.5 | -1 | 4294967295 |",
+        "| -1 | 50 | -0.05 | -1 | 4294967295 |",
+        "| -1 | 50 | -0.5 | 0 | 4294967295 |",
+        "| -1 | 50 | -0.5 | 0 | 0 |",
+        "| -1 | 50 | -0.5 | -1 | 4294967294 |",
+    ] {
+        assert!(fails_with(&page, row, wrong, multiplied), "{wrong}");
+    }
+    let compared = |page: &Page| {
+        examples::compared_table(page, &Reimplementation);
+    };
+    for wrong in [
+        "| 1 | -1 | 1 | 0 |",
+        "| -1 | 0 | 0 | 0 |",
+        "| -1 | 0 | 1 | 1 |",
+    ] {
+        let fails = fails_with(&page, "| -1 | 0 | 1 | 0 |", wrong, compared);
+        assert!(fails, "{wrong}");
     }
 }

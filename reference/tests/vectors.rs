@@ -16,7 +16,14 @@ const VERSION_1_0: &str = "";
 const VERSION_1_1: &str = "1.1";
 const VERSION_1_2: &str = "1.2";
 const VERSION_1_3: &str = "1.3";
-const VERSIONS: [&str; 4] = [VERSION_1_0, VERSION_1_1, VERSION_1_2, VERSION_1_3];
+const VERSION_1_4: &str = "1.4";
+const VERSIONS: [&str; 5] = [
+    VERSION_1_0,
+    VERSION_1_1,
+    VERSION_1_2,
+    VERSION_1_3,
+    VERSION_1_4,
+];
 
 /// Splits the lines of a vector file into fields, checks each with its line number, and compares
 /// the number of cases with the number of lines.
@@ -99,7 +106,7 @@ fn counts_and_state(fields: &[&str]) -> (Vec<Counts>, Vec<u8>) {
 
 /// Whether a version records the counts of each thread, or those of all threads together.
 fn records_each_thread(version: &str) -> bool {
-    [VERSION_1_2, VERSION_1_3].contains(&version)
+    ![VERSION_1_0, VERSION_1_1].contains(&version)
 }
 
 /// What a version records of the answered counts: those of each thread of the file, where all

@@ -3,6 +3,7 @@
 //!
 //! A seed names a file (`generate` of the reimplementation), so a failure is repeated by its seed.
 
+mod hundredths;
 mod judge;
 mod line;
 mod run;

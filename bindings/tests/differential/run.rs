@@ -12,10 +12,10 @@ const FILES_OF_ANY_KIND: u64 = 20_000;
 const FILES_AT_BOUNDARIES: u64 = 24;
 
 /// What run answers: the counts of each thread.
-type Answer = Result<[Counts; MAX_THREADS], Refusal>;
+pub type Answer = Result<[Counts; MAX_THREADS], Refusal>;
 
 /// Compares one call, and answers what both said.
-fn compare(seed: u64, file: &[u8], list: &[u8], length: usize) -> Answer {
+pub fn compare(seed: u64, file: &[u8], list: &[u8], length: usize) -> Answer {
     let wanted = lend(seed, length, |state| {
         hogunlas_reference::run(file, list, state).map(as_ours)
     });

@@ -16,9 +16,16 @@ pub enum Version {
     V1_1,
     V1_2,
     V1_3,
+    V1_4,
 }
 
-const VERSIONS: [Version; 4] = [Version::V1_0, Version::V1_1, Version::V1_2, Version::V1_3];
+const VERSIONS: [Version; 5] = [
+    Version::V1_0,
+    Version::V1_1,
+    Version::V1_2,
+    Version::V1_3,
+    Version::V1_4,
+];
 
 impl Version {
     /// Its folder of `reference/vectors/`.
@@ -28,6 +35,7 @@ impl Version {
             Version::V1_1 => "1.1",
             Version::V1_2 => "1.2",
             Version::V1_3 => "1.3",
+            Version::V1_4 => "1.4",
         }
     }
 }

@@ -32,5 +32,6 @@ fn main(rt: HostRuntime) -> io::Result<()> {
     statements::other_offences(&rt)?;
     statements::shown(&rt)?;
     moves::results(&rt)?;
+    moves::signed(&rt)?;
     moves::places(&rt)
 }

@@ -34,6 +34,52 @@ pub fn results(rt: &impl Print) -> io::Result<()> {
     moved(rt, "READ r7 v0: ", Instruction::Read(7, 0), 9, STANDING)
 }
 
+// A thread with -1 in r0.
+const BELOW_ZERO: Thread = Thread {
+    place: 0,
+    registers: [0xFFFF_FFFF, 50, 49, 150, 0, 0, 0, 0],
+};
+
+// "It rounds to nearest, halves away from zero", and "LESSS gives 1 if the signed value of register b is below that of register c".
+#[tactic(auto, unfolding(program::specs::View::access_of))]
+pub fn signed(rt: &impl Print) -> io::Result<()> {
+    moved(
+        rt,
+        "MULH r4 r3 r3: ",
+        Instruction::Mulh(4, 3, 3),
+        0,
+        BELOW_ZERO,
+    )?;
+    moved(
+        rt,
+        "MULH r4 r0 r1: ",
+        Instruction::Mulh(4, 0, 1),
+        0,
+        BELOW_ZERO,
+    )?;
+    moved(
+        rt,
+        "MULH r4 r0 r2: ",
+        Instruction::Mulh(4, 0, 2),
+        0,
+        BELOW_ZERO,
+    )?;
+    moved(
+        rt,
+        "LESSS r4 r0 r1: ",
+        Instruction::Lesss(4, 0, 1),
+        0,
+        BELOW_ZERO,
+    )?;
+    moved(
+        rt,
+        "LESS r4 r0 r1: ",
+        Instruction::Less(4, 0, 1),
+        0,
+        BELOW_ZERO,
+    )
+}
+
 // "IF and WHILE go to the next place if the register is not 0, else one past the named place. ELSE goes to its END. AGAIN goes to its
 // WHILE. All others go to the next place."
 #[tactic(auto, unfolding(program::specs::View::access_of))]

@@ -10,13 +10,14 @@
 --     stated_true, stated_above, stated_top, stated_five
 --                                    a true statement, one above the atomicity, one of a block that is T, and one of T
 --     statement_taken_out            a file with its statement taken out
+--     mean_run, mean_printout        a mean of two temperatures below zero
 use Rattle.std.proofs.Common.{◌≡◌, refl, List, [], ◌∷◌, ◌++◌, ℕ, zero, suc, ◌+◌, replicate}
 use Rattle.machine.specs.Run.{run}
 use Rattle.machine.specs.State.{start}
 use Rattle.printout.specs.Text.{ascii}
 use Rattle.program.specs.Unstated.{without_statements}
 use Rattle.hogunlas.specs.Calls.{bench_output}
-use Rattle.hogunlas.specs.Cases.{numbers, refusal, judge_says, file, guarded_variable, TAKE, GIVE, READ, ATOMIC, END, SET}
+use Rattle.hogunlas.specs.Cases.{numbers, refusal, judge_says, file, guarded_variable, run_says, registers, TAKE, GIVE, READ, ATOMIC, END, SET}
 use Rattle.hogunlas.proofs.Definitions.{definitions}
 
 -- "Given .. it prints exactly": the example file and its ten lines
@@ -125,3 +126,30 @@ pub statement_taken_out :
     without_statements (file guarded_variable (STATES 4 3 ++ SET 4 4 ++ READ ++ END)) ≡ file guarded_variable (ATOMIC 3 ++ SET 4 4 ++ READ ++ END)
 unfolding definitions
 statement_taken_out = refl
+
+-- a mean of two temperatures below zero, -15.67 and -12.34 degrees: the file `mean` of the standard
+abbrev mean : List ℕ
+mean =
+    0x01 ∷ 0x01 ∷ 0x02 ∷ 0x00 ∷ 0x18
+    ∷ 0x00 ∷ 0x00 ∷ 0xFF ∷ 0xFF ∷ 0xFB ∷ 0x2E
+    ∷ 0x00 ∷ 0x00 ∷ 0xFF ∷ 0xFF ∷ 0xFB ∷ 0x5A
+    ∷ 0x00 ∷ 0x00 ∷ 0x00 ∷ 0x00 ∷ 0x00 ∷ 0x00
+    ∷ 0x02 ∷ 0x00 ∷ 0xFF ∷ 0xFF ∷ 0xF9 ∷ 0xE1
+    ∷ 0x00 ∷ 0x20
+    ∷ 0x34 ∷ 0x00 ∷ 0x00 ∷ 0x07 ∷ 0x20 ∷ 0x00 ∷ 0x00 ∷ 0x00 ∷ 0x10 ∷ 0x00 ∷ 0x00 ∷ 0x00 ∷ 0x11 ∷ 0x00 ∷ 0x01 ∷ 0x00
+    ∷ 0x10 ∷ 0x01 ∷ 0x03 ∷ 0x00 ∷ 0x11 ∷ 0x01 ∷ 0x00 ∷ 0x00 ∷ 0x21 ∷ 0x00 ∷ 0x00 ∷ 0x00 ∷ 0x35 ∷ 0x00 ∷ 0x00 ∷ 0x00
+    ∷ 0x00 ∷ 0x30
+    ∷ 0x34 ∷ 0x04 ∷ 0x00 ∷ 0x09 ∷ 0x20 ∷ 0x00 ∷ 0x00 ∷ 0x00 ∷ 0x10 ∷ 0x00 ∷ 0x00 ∷ 0x00 ∷ 0x10 ∷ 0x01 ∷ 0x01 ∷ 0x00
+    ∷ 0x03 ∷ 0x02 ∷ 0x00 ∷ 0x01 ∷ 0x01 ∷ 0x03 ∷ 0x00 ∷ 0x32 ∷ 0x07 ∷ 0x02 ∷ 0x02 ∷ 0x03 ∷ 0x11 ∷ 0x02 ∷ 0x02 ∷ 0x00
+    ∷ 0x21 ∷ 0x00 ∷ 0x00 ∷ 0x00 ∷ 0x35 ∷ 0x00 ∷ 0x00 ∷ 0x00 ∷ 0x01 ∷ 0x04 ∷ 0x00 ∷ 0x64 ∷ 0x08 ∷ 0x05 ∷ 0x02 ∷ 0x04 ∷ []
+
+-- the registers of both threads: thread 1 has -1401 in r2, -14.005 degrees to the nearest hundredth, and 1 in r5, since it is less than 100
+pub mean_run : run_says registers mean (0 ∷ 1 ∷ 0 ∷ 1 ∷ replicate 6 0 ++ replicate 11 1) ≡ numbers
+    (0xFFFFFB2E ∷ 0xFFFFF9E1 ∷ replicate 6 0 ++ 0xFFFFF9E1 ∷ 0xFFFFFB2E ∷ 0xFFFFFA87 ∷ 50 ∷ 100 ∷ 1 ∷ 0 ∷ 0 ∷ [])
+unfolding definitions
+mean_run = refl
+
+pub mean_printout : bench_output mean ≡ ascii
+    "01 version 1\n01 locks 1\n02 threads 2\n0018 variables 4\n00 00 FFFFFB2E v0 guarded k0 4294966062\n00 00 FFFFFB5A v1 guarded k0 4294966106\n00 00 00000000 v2 guarded k0 0\n02 00 FFFFF9E1 v3 fixed 4294965729\n0020 thread 0 code 8\n34 00 00 07 0 ATOMIC 7 A\n20 00 00 00 1 TAKE k0 R\n10 00 00 00 2 READ r0 v0 B\n11 00 01 00 3 WRITE r0 v1 B\n10 01 03 00 4 READ r1 v3 B\n11 01 00 00 5 WRITE r1 v0 B\n21 00 00 00 6 GIVE k0 L\n35 00 00 00 7 END -\n0030 thread 1 code 12\n34 04 00 09 0 ATOMIC 9 A A\n20 00 00 00 1 TAKE k0 R\n10 00 00 00 2 READ r0 v0 B\n10 01 01 00 3 READ r1 v1 B\n03 02 00 01 4 ADD r2 r0 r1 B\n01 03 00 32 5 SET r3 50 B\n07 02 02 03 6 MULH r2 r2 r3 B\n11 02 02 00 7 WRITE r2 v2 B\n21 00 00 00 8 GIVE k0 L\n35 00 00 00 9 END -\n01 04 00 64 10 SET r4 100 B\n08 05 02 04 11 LESSS r5 r2 r4 B\nthread 0 A\nthread 1 A\n"
+unfolding definitions
+mean_printout = refl

@@ -5,7 +5,8 @@ use Rattle.program.specs.Choice.{choose}
 use Rattle.program.specs.Layout.{Program, code_of}
 use Rattle.program.specs.View as form
 use Rattle.program.specs.declared.instruction.Instruction.{Instruction}
-use Rattle.program.specs.declared.instruction.Instruction.TheVariants.{Set, Copy, Add, Sub, Less, Read, Write, Take, Give, If, Else, While, Again, Atomic, End}
+use Rattle.program.specs.declared.instruction.Instruction.TheVariants.{Set, Copy, Add, Sub, Less, Read, Write, Take, Give, If, Else, While, Again, Atomic, End, Mulh, Lesss}
+use Rattle.machine.specs.Signed.{mulh, lesss}
 use Rattle.machine.specs.State.{State, thread_of}
 use Rattle.machine.specs.declared.thread.Outcome.{Outcome}
 use Rattle.machine.specs.declared.thread.Outcome.TheVariants.{Moved, Waiting, Idle}
@@ -73,6 +74,8 @@ result_of (While a n) x r = keeps
 result_of (Again n) x r = keeps
 result_of (Atomic a n) x r = keeps
 result_of End x r = keeps
+result_of (Mulh a b c) x r = puts a (mulh (reg r b) (reg r c))
+result_of (Lesss a b c) x r = puts a (lesss (reg r b) (reg r c))
 
 -- the registers with a result stored
 unfoldable pub stored : Result → List ℕ → List ℕ

@@ -6,5 +6,6 @@ pub mod moves;
 pub mod prepare;
 pub mod run;
 pub mod running;
+pub mod signed;
 pub mod state_bytes;
 pub mod thread;

@@ -6,6 +6,7 @@ ghost use Rattle.program.specs.Internal.Bounds.{largest_place};
 ghost use Rattle.program.specs.Internal.Sound.{FieldsGood};
 ghost use Rattle.machine.specs.Internal.Effect.{Does};
 
+use crate::signed::{lesss, mulh};
 use program::instruction::Instruction;
 use program::limits::REGISTER_COUNT;
 
@@ -67,5 +68,7 @@ pub fn move_of(i: Instruction, r: &[u32; REGISTER_COUNT], place: usize) -> Move
         Instruction::While(a, n) => branch(r[a as usize], n, place),
         Instruction::Again(n) => Move::Goes(place.saturating_sub(usize::from(n))),
         Instruction::Atomic(_, _) | Instruction::End => Move::Passes,
+        Instruction::Mulh(a, b, c) => Move::Sets(a, mulh(r[b as usize], r[c as usize])),
+        Instruction::Lesss(a, b, c) => Move::Sets(a, lesss(r[b as usize], r[c as usize])),
     }
 }

@@ -92,15 +92,15 @@ kind_width locks threads kind g few_locks few_threads =
 -- ---- an instruction
 
 instruction_width : (locks variables op a b c : ℕ) → a < 256 → b < 256 → c < 256
-    → width (instruction_words (decoded_instruction (decode locks variables op a b c))) ≤ 20
+    → width (instruction_words (decoded_instruction (decode locks variables op a b c))) ≤ 21
 unfolding instruction_words numbered ascii
 instruction_width locks variables op a b c small_a small_b small_c =
     let x = decimal_length 2 a (omega arith) in
     let y = decimal_length 2 b (omega arith) in
     let z = decimal_length 2 c (omega arith) in
     let n = decimal_length 4 (b * 256 + c) (omega arith) in
-    decode_holds (λ i. width (instruction_words i) ≤ 20) (omega arith) locks variables op a b c
-    (omega (arith, x, n), (omega (arith, x, y), (omega (arith, x, y, z), (omega (arith, x, y, z), (omega (arith, x, y, z), (omega (arith, x, y), (omega (arith, x, y), (omega (arith, x), (omega (arith, x), (omega (arith, x, n), (omega (arith, n), (omega (arith, x, n), (omega (arith, n), (omega (arith, n, stated_width a), (omega arith, tt)))))))))))))))
+    decode_holds (λ i. width (instruction_words i) ≤ 21) (omega arith) locks variables op a b c
+    (omega (arith, x, n), (omega (arith, x, y), (omega (arith, x, y, z), (omega (arith, x, y, z), (omega (arith, x, y, z), (omega (arith, x, y), (omega (arith, x, y), (omega (arith, x), (omega (arith, x), (omega (arith, x, n), (omega (arith, n), (omega (arith, x, n), (omega (arith, n), (omega (arith, n, stated_width a), (omega arith, (omega (arith, x, y, z), (omega (arith, x, y, z), tt)))))))))))))))))
 
 -- ---- lines
 

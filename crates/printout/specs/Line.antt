@@ -8,7 +8,7 @@ use Rattle.program.specs.Limits.{instruction_size, record_offset}
 use Rattle.program.specs.Refusal.{number_of, detail_of}
 use Rattle.program.specs.Variable.{Variable}
 use Rattle.program.specs.declared.instruction.Instruction.{Instruction}
-use Rattle.program.specs.declared.instruction.Instruction.TheVariants.{Set, Copy, Add, Sub, Less, Read, Write, Take, Give, If, Else, While, Again, Atomic, End}
+use Rattle.program.specs.declared.instruction.Instruction.TheVariants.{Set, Copy, Add, Sub, Less, Read, Write, Take, Give, If, Else, While, Again, Atomic, End, Mulh, Lesss}
 use Rattle.program.specs.declared.refusal.Refusal.{Refusal}
 use Rattle.program.specs.declared.variable.Kind.{Kind}
 use Rattle.program.specs.declared.variable.Kind.TheVariants.{Guarded, Own, Fixed, Open}
@@ -68,6 +68,8 @@ instruction_words (While a n) = ascii "WHILE" ∷ numbered "r" a ∷ decimal n �
 instruction_words (Again n) = ascii "AGAIN" ∷ decimal n ∷ []
 instruction_words (Atomic a n) = ascii "ATOMIC" ∷ decimal n ∷ stated_words a
 instruction_words End = ascii "END" ∷ []
+instruction_words (Mulh a b c) = ascii "MULH" ∷ numbered "r" a ∷ numbered "r" b ∷ numbered "r" c ∷ []
+instruction_words (Lesss a b c) = ascii "LESSS" ∷ numbered "r" a ∷ numbered "r" b ∷ numbered "r" c ∷ []
 
 -- `20 00 00 00 0 TAKE k0 R`: the instruction at a place, its bytes at an offset, with its report byte
 unfoldable pub instruction_line : List ℕ → (at place : ℕ) → Instruction → (byte : ℕ) → List ℕ

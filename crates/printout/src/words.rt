@@ -74,9 +74,9 @@ impl LineText {
     // The words of an instruction: "name, its fields in byte order".
     #[tactic(auto, unfolding(crate::specs::Internal::Field::field_words, crate::specs::Line::instruction_words, crate::specs::Text::ascii))]
     pub fn instruction(&mut self, i: Instruction)
-        requires { length self.old.bytes.items + 20 ≤ line_size }
+        requires { length self.old.bytes.items + 21 ≤ line_size }
         ensures words { self.new.bytes.items ≡ self.old.bytes.items ++ blanked (instruction_words i) }
-        ensures room { length self.new.bytes.items ≤ length self.old.bytes.items + 20 }
+        ensures room { length self.new.bytes.items ≤ length self.old.bytes.items + 21 }
     {
         use Field::{Lock, Number, Register, Stated, Variable};
         match i {
@@ -104,6 +104,14 @@ impl LineText {
             Instruction::Again(n) => self.words(b"AGAIN", &[Number(n)]),
             Instruction::Atomic(stated, n) => self.words(b"ATOMIC", &[Number(n), Stated(stated)]),
             Instruction::End => self.words(b"END", &[]),
+            Instruction::Mulh(a, b, c) => self.words(
+                b"MULH",
+                &[Register(a), Register(b), Register(c)],
+            ),
+            Instruction::Lesss(a, b, c) => self.words(
+                b"LESSS",
+                &[Register(a), Register(b), Register(c)],
+            ),
         }
     }
 }

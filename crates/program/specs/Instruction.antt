@@ -4,7 +4,7 @@ use Rattle.program.specs.Choice.{choose}
 use Rattle.program.specs.Field.{byte_at}
 use Rattle.program.specs.Limits.{register_count, statement_limit}
 use Rattle.program.specs.declared.instruction.Instruction.{Instruction}
-use Rattle.program.specs.declared.instruction.Instruction.TheVariants.{Set, Copy, Add, Sub, Less, Read, Write, Take, Give, If, Else, While, Again, Atomic, End}
+use Rattle.program.specs.declared.instruction.Instruction.TheVariants.{Set, Copy, Add, Sub, Less, Read, Write, Take, Give, If, Else, While, Again, Atomic, End, Mulh, Lesss}
 
 -- what the four bytes of an instruction say
 pub data Decoded : Type 0 where
@@ -55,6 +55,8 @@ table a b c =
     ∷ row 0x33 zero part part (Again n)
     ∷ row 0x34 statement part part (Atomic a n)
     ∷ row 0x35 zero zero zero End
+    ∷ row 0x07 register register register (Mulh a b c)
+    ∷ row 0x08 register register register (Lesss a b c)
     ∷ []
 
 -- "7: unknown op, or a register, variable, lock, statement or zero field wrong"

@@ -46,6 +46,8 @@ view_of (instruction.While a n) = nests (While a n)
 view_of (instruction.Again n) = nests (Again n)
 view_of (instruction.Atomic a n) = states a n
 view_of instruction.End = nests End
+view_of (instruction.Mulh a b c) = own
+view_of (instruction.Lesss a b c) = own
 
 abbrev pub access_in : View → Access
 access_in own = none

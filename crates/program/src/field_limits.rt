@@ -58,6 +58,8 @@ impl Limits {
             FieldLimits(ZERO, PART, PART),
             FieldLimits(STATEMENT, PART, PART),
             FieldLimits(ZERO, ZERO, ZERO),
+            FieldLimits(REGISTER, REGISTER, REGISTER),
+            FieldLimits(REGISTER, REGISTER, REGISTER),
         ];
         Limits {
             locks,

@@ -26,6 +26,8 @@ pub enum Instruction {
     // With what it states: the byte of the file, which is a report byte, or 0 for nothing. The definitions speak of this number.
     Atomic(u8, u16),
     End,
+    Mulh(u8, u8, u8),
+    Lesss(u8, u8, u8),
 }
 
 // A row of the standard's table of op codes, by the instruction that it is of, or none: a byte that is no op code.
@@ -47,10 +49,12 @@ pub enum Row {
     Again,
     Atomic,
     End,
+    Mulh,
+    Lesss,
 }
 
 // How many there are.
-pub const ROW_COUNT: usize = 16;
+pub const ROW_COUNT: usize = 18;
 
 impl Row {
     // The row of an op code.
@@ -99,6 +103,8 @@ impl Row {
             Row::While => Instruction::While(a, n),
             Row::Again => Instruction::Again(n),
             Row::Atomic => Instruction::Atomic(a, n),
+            Row::Mulh => Instruction::Mulh(a, b, c),
+            Row::Lesss => Instruction::Lesss(a, b, c),
             Row::End | Row::Unknown => Instruction::End,
         }
     }

@@ -158,6 +158,11 @@ fn busy_thread() -> Vec<Instruction> {
     endless(&[&add_to_v0()[..], &calculate().repeat(12)].concat())
 }
 
+/// Eight threads that never end and multiply and compare numbers below zero.
+pub fn multiplying_threads() -> Vec<u8> {
+    file(&vec![endless(&multiply().repeat(12)); THREADS])
+}
+
 /// Eight threads that do nothing but add to v0 under its lock, so that most steps wait.
 pub fn contending_threads() -> Vec<u8> {
     file(&vec![endless(&add_to_v0()); THREADS])
@@ -214,6 +219,26 @@ fn calculate() -> [Instruction; 6] {
         Else { distance },
         Sub { to, left, right },
         End,
+    ]
+}
+
+fn multiply() -> [Instruction; 4] {
+    let (to, left, right) = (2, 2, 1);
+    let product = Mulh {
+        to: 4,
+        left: 2,
+        right: 3,
+    };
+    let is_less = Lesss {
+        to: 5,
+        left: 4,
+        right: 2,
+    };
+    [
+        Sub { to, left, right },
+        Set { to: 3, number: 150 },
+        product,
+        is_less,
     ]
 }
 

@@ -144,6 +144,7 @@ pub fn run_rows() {
     run_row("round robin", &files::busy_threads(), &turns);
     run_row("random list", &files::busy_threads(), &random);
     run_row("all at one lock", &files::contending_threads(), &turns);
+    run_row("signed hundredths", &files::multiplying_threads(), &turns);
     run_row("threads at their end", &files::ended_threads(), &turns);
     run_row(
         "one thread at its end, the others not",

@@ -37,7 +37,8 @@ fn largest_source(rng: &mut Rng) -> Source {
 }
 
 /// Accepted code of exactly 1,024 instructions: pieces that each end with no lock held, and COPYs
-/// where no further piece has room. A piece exceeds its length by closers and last GIVEs.
+/// where no further piece has room. A piece exceeds its length by closers and last GIVEs, and by a
+/// MULH behind its SET.
 fn full_code(rng: &mut Rng, source: &Source, thread: u8) -> Vec<Instruction> {
     let mut code = Vec::new();
     loop {

@@ -3,6 +3,7 @@
 use super::channel::Channel;
 use super::rng::Rng;
 use super::statement::state_blocks;
+use super::value::value;
 use super::writer::{Scope, Writer};
 use crate::instruction::Instruction;
 use crate::reader::{MAX_LOCKS, MAX_THREADS};
@@ -112,7 +113,9 @@ fn push_section(file: &mut Vec<u8>, bytes: &[u8]) {
     file.extend_from_slice(bytes);
 }
 
-/// A good variable record: guarded ones if there is a lock, and some of each other kind.
+/// A good variable record: guarded ones if there is a lock, and some of each other kind. Initial
+/// values are where a thread gets numbers from that no SET puts: below zero, and near the ends of the
+/// signed span.
 fn variable(rng: &mut Rng, locks: usize, threads: usize) -> [u8; 6] {
     let (kind, g) = match rng.below(12) {
         0..=4 if locks > 0 => (0, rng.below(locks)),
@@ -120,9 +123,9 @@ fn variable(rng: &mut Rng, locks: usize, threads: usize) -> [u8; 6] {
         6 => (2, 0),
         _ => (3, 0),
     };
-    let initial = match rng.below(4) {
-        0 => rng.next_u64() as u32,
-        1 => u32::MAX,
+    let initial = match rng.below(10) {
+        0..=3 => value(rng),
+        4..=5 => u32::MAX,
         _ => rng.below(4) as u32,
     };
     let [w, x, y, z] = initial.to_be_bytes();

@@ -63,6 +63,9 @@ enum Phase {
     After,
 }
 
+/// Factors of MULH: halves, what is next to a half, and what is above a whole.
+const FACTORS: [u16; 6] = [49, 50, 50, 51, 101, 150];
+
 pub(super) struct Writer<'r> {
     rng: &'r mut Rng,
     scope: Scope,
@@ -90,7 +93,8 @@ impl<'r> Writer<'r> {
         }
     }
 
-    /// Code of about `length` instructions; closers and the last GIVEs may exceed it.
+    /// Code of about `length` instructions; closers, the last GIVEs and a MULH behind its
+    /// SET may exceed it.
     pub(super) fn write(mut self, length: usize) -> Vec<Instruction> {
         self.length = length;
         while self.code.len() < length {
@@ -164,14 +168,16 @@ impl<'r> Writer<'r> {
         self.rng.below(REGISTERS) as u8
     }
 
-    /// An instruction that touches registers only.
+    /// One or two instructions that touch registers only.
     fn calculation(&mut self) {
         let (to, left, right) = (self.register(), self.register(), self.register());
-        let instruction = match self.rng.below(7) {
+        let instruction = match self.rng.below(10) {
             0 => Copy { to, from: left },
             1..=2 => Add { to, left, right },
             3 => Sub { to, left, right },
             4 => Less { to, left, right },
+            5..=6 => Lesss { to, left, right },
+            7..=8 => self.some_mulh(to, left, right),
             _ => self.some_set(to),
         };
         self.code.push(instruction);
@@ -184,6 +190,17 @@ impl<'r> Writer<'r> {
             self.rng.next_u64() as u16
         };
         Set { to, number }
+    }
+
+    /// A MULH, mostly by a factor that a SET puts just before. What registers hold otherwise is mostly
+    /// so small that every product would be rounded to 0; with these factors halves on both sides of
+    /// zero are met, and products of values near the ends of the signed span lie outside it.
+    fn some_mulh(&mut self, to: u8, left: u8, right: u8) -> Instruction {
+        if self.rng.chance(60) {
+            let number = self.rng.pick(&FACTORS).unwrap_or_default();
+            self.code.push(Set { to: right, number });
+        }
+        Mulh { to, left, right }
     }
 
     /// A READ or WRITE of a variable that may be accessed here, if there is one.

@@ -2,7 +2,8 @@
 //! Each function fails at the first difference and says how many comparisons it made.
 
 use super::notation::{
-    answer, bytes, counts_line, dump, file, listed_counts, number, numbers, refusal,
+    answer, bytes, counts_line, dump, file, hundredths, listed_counts, number, numbers, refusal,
+    signed,
 };
 use super::{Block, Page, Table};
 use crate::instruction::{MAX_STATEMENT, REGISTERS};
@@ -192,6 +193,50 @@ fn in_state(file: &[u8], state: &[u8], what: &str) -> u64 {
         Some((name, register)) => big_endian(thread(name) + 2 + 4 * index(register), 4),
         None => panic!("not in a state: {what}"),
     }
+}
+
+/// The table of MULH's results, each row's operands multiplied by a program.
+pub fn multiplied_table(page: &Page, calls: &impl Answers) -> usize {
+    let table = page.table("b | c | product divided by 100 | MULH | register a | tells apart");
+    for row in &table.rows {
+        let operands = [&row[0], &row[1]].map(|cell| signed(cell));
+        let product: i64 = operands.iter().product();
+        assert_eq!(hundredths(&row[2]), product, "{row:?}");
+        let wanted = number(&row[4]);
+        assert_eq!(register(signed(&row[3])), wanted, "{row:?}");
+        assert_eq!(computed(calls, "MULH", operands), wanted, "{row:?}");
+    }
+    table.rows.len()
+}
+
+/// The table of comparisons, each made by a program with LESSS and with LESS.
+pub fn compared_table(page: &Page, calls: &impl Answers) -> usize {
+    let table = page.table("b | c | LESSS | LESS");
+    for row in &table.rows {
+        let operands = [&row[0], &row[1]].map(|cell| signed(cell));
+        for (name, wanted) in table.head.iter().zip(row).skip(2) {
+            let found = computed(calls, name, operands);
+            assert_eq!(found, number(wanted), "{name}, {row:?}");
+        }
+    }
+    table.rows.len()
+}
+
+/// What an instruction makes of two operands, given by their signed values in fixed variables.
+fn computed(calls: &impl Answers, name: &str, operands: [i64; 2]) -> u64 {
+    let [b, c] = operands.map(register);
+    let variables = format!("fixed {b}, fixed {c}");
+    let code = format!("READ r0 v0, READ r1 v1, {name} r2 r0 r1");
+    let file = file("0", &variables, &code);
+    let (_, state) = calls.run(&file, &[0; 3]).expect("an accepted file");
+    in_state(&file, &state, "t0 r2")
+}
+
+/// "a number of the span is put into a register as it is, or, if it is below zero, with 2^32 added"
+fn register(signed: i64) -> u64 {
+    assert!(i32::try_from(signed).is_ok(), "not in the span: {signed}");
+    let above_zero = if signed < 0 { 1 << 32 } else { 0 };
+    (signed + above_zero) as u64
 }
 
 /// The table of op codes: every op code, and for each of its fields the values about its range.

@@ -33,6 +33,21 @@ pub fn number(text: &str) -> u64 {
         .unwrap_or_else(|_| panic!("no number: {text}"))
 }
 
+/// A number that may be below zero.
+pub fn signed(text: &str) -> i64 {
+    match text.strip_prefix('-') {
+        Some(digits) => -(number(digits) as i64),
+        None => number(text) as i64,
+    }
+}
+
+/// How many hundredths a decimal number of at most two digits behind the point is, exactly.
+pub fn hundredths(text: &str) -> i64 {
+    let (whole, part) = text.split_once('.').unwrap_or((text, ""));
+    assert!(part.len() <= 2, "no hundredths: {text}");
+    signed(&format!("{whole}{part:0<2}"))
+}
+
 /// The bytes of a dump, whose offsets go on without gaps.
 pub fn dump(lines: &[String]) -> Vec<u8> {
     let mut all = Vec::new();
@@ -111,12 +126,14 @@ fn plain(words: &[&str]) -> Option<Instruction> {
             to: r(a),
             from: r(b),
         },
-        [name @ ("ADD" | "SUB" | "LESS"), a, b, c] => {
+        [name @ ("ADD" | "SUB" | "LESS" | "MULH" | "LESSS"), a, b, c] => {
             let [to, left, right] = [a, b, c].map(r);
             match name {
                 "ADD" => Add { to, left, right },
                 "SUB" => Sub { to, left, right },
-                _ => Less { to, left, right },
+                "LESS" => Less { to, left, right },
+                "MULH" => Mulh { to, left, right },
+                _ => Lesss { to, left, right },
             }
         }
         ["READ", a, b] => Read {

@@ -1,13 +1,13 @@
 //! The vectors of older versions of the standard that a later version answers otherwise.
 
 /// The versions of vectors, their kinds, and the lines of their files.
-const CHANGED: [(&str, &str, &[usize]); 5] = [
+const CHANGED: [(&str, &str, &[usize]); 14] = [
     (
         "",
         "judge",
         &[
-            51, 74, 77, 80, 140, 142, 167, 168, 171, 219, 232, 240, 249, 304, 327, 328, 329, 330,
-            365, 370, 403, 412, 434, 435, 446,
+            38, 45, 51, 74, 77, 79, 80, 140, 142, 167, 168, 171, 219, 232, 240, 249, 304, 327, 328,
+            329, 330, 365, 370, 403, 412, 434, 435, 446,
         ],
     ),
     (
@@ -20,11 +20,20 @@ const CHANGED: [(&str, &str, &[usize]); 5] = [
         "",
         "bench",
         &[
-            20, 42, 65, 67, 75, 83, 94, 163, 180, 193, 205, 222, 231, 248, 252, 265, 266, 274, 275,
-            306, 307, 357, 367, 413, 425,
+            20, 42, 65, 67, 75, 83, 94, 136, 163, 180, 193, 205, 222, 231, 248, 252, 265, 266, 274,
+            275, 306, 307, 349, 357, 367, 413, 425,
         ],
     ),
-    ("1.1", "run", &[219]),
+    ("1.1", "run", &[39, 45, 112, 219, 414]),
+    ("1.1", "line", &[424, 464]),
+    ("1.1", "bench", &[101, 169, 313]),
+    ("1.2", "judge", &[345]),
+    ("1.2", "run", &[184, 257, 276, 290]),
+    ("1.2", "line", &[48, 188, 288, 363]),
+    ("1.2", "bench", &[123]),
+    ("1.3", "judge", &[291]),
+    ("1.3", "run", &[381, 460]),
+    ("1.3", "line", &[21, 145, 250, 486]),
 ];
 
 /// The lines of a version's file of a kind that are answered otherwise.
@@ -37,6 +46,7 @@ pub fn lines(version: &str, kind: &str) -> &'static [usize] {
 /// last ones are the recorded answer.
 pub fn can_change(version: &str, file: &[u8], fields: &[&str]) -> bool {
     refused_for_a_statement(file, fields)
+        || refused_for_an_op(file, fields)
         || version.is_empty() && reads_what_no_other_thread_writes(file)
 }
 
@@ -47,6 +57,15 @@ fn refused_for_a_statement(file: &[u8], fields: &[&str]) -> bool {
         return false;
     };
     matches!(file[at..], [0x34, 1..=4, ..])
+}
+
+/// Whether a case was refused by 7 for the op code of MULH or LESSS, with fields that are registers.
+/// Since version 1.4 "op codes 07 and 08 are MULH and LESSS .. before, each was a 7".
+fn refused_for_an_op(file: &[u8], fields: &[&str]) -> bool {
+    let Some((7, at)) = recorded_refusal(fields) else {
+        return false;
+    };
+    matches!(file[at..], [0x07 | 0x08, 0..=7, 0..=7, 0..=7, ..])
 }
 
 /// The number and the detail of a case's refusal: its last fields, or what `bench` printed.

@@ -59,6 +59,8 @@ number_of row.While = 12
 number_of row.Again = 13
 number_of row.Atomic = 14
 number_of row.End = 15
+number_of row.Mulh = 16
+number_of row.Lesss = 17
 
 abbrev pub row_count : ℕ
 row_count = 1 + length (table 0 0 0)

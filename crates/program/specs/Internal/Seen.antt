@@ -8,7 +8,7 @@ use Rattle.std.specs.Prelude.{ℕ, ◌<◌, ◌≡◌, refl, List, [], ◌∷◌
 use Rattle.program.specs.View.{own, view_of}
 use Rattle.program.specs.Limits.{register_count}
 use Rattle.program.specs.declared.instruction.Instruction.{Instruction}
-use Rattle.program.specs.declared.instruction.Instruction.TheVariants.{Set, Copy, Add, Sub, Less, Read, Write, Take, Give, If, Else, While, Again, Atomic, End}
+use Rattle.program.specs.declared.instruction.Instruction.TheVariants.{Set, Copy, Add, Sub, Less, Read, Write, Take, Give, If, Else, While, Again, Atomic, End, Mulh, Lesss}
 
 pub data Seen : Instruction → Type 0 where
   seen_local : {i : Instruction} (registers : List ℕ) → view_of i ≡ own → Seen i
@@ -39,6 +39,8 @@ seen (While a n) = seen_while
 seen (Again n) = seen_again
 seen (Atomic a n) = seen_atomic
 seen End = seen_end
+seen (Mulh a b c) = seen_local (a ∷ b ∷ c ∷ []) refl
+seen (Lesss a b c) = seen_local (a ∷ b ∷ c ∷ []) refl
 
 -- "Registers are r0 to r7"
 abbrev pub AreRegisters : List ℕ → Type 0

@@ -28,6 +28,18 @@ bounds-r-b-in-Less c = (fields_eq c.in-Less.is c.requires.0).0.1.0
 pub bounds-r-c-in-Less : goal.bounds-r-c-in-Less
 bounds-r-c-in-Less c = (fields_eq c.in-Less.is c.requires.0).0.1.1.0
 
+pub bounds-r-b-in-Mulh : goal.bounds-r-b-in-Mulh
+bounds-r-b-in-Mulh c = (fields_eq c.in-Mulh.is c.requires.0).0.1.0
+
+pub bounds-r-c-in-Mulh : goal.bounds-r-c-in-Mulh
+bounds-r-c-in-Mulh c = (fields_eq c.in-Mulh.is c.requires.0).0.1.1.0
+
+pub bounds-r-b-in-Lesss : goal.bounds-r-b-in-Lesss
+bounds-r-b-in-Lesss c = (fields_eq c.in-Lesss.is c.requires.0).0.1.0
+
+pub bounds-r-c-in-Lesss : goal.bounds-r-c-in-Lesss
+bounds-r-c-in-Lesss c = (fields_eq c.in-Lesss.is c.requires.0).0.1.1.0
+
 pub bounds-r-a : goal.bounds-r-a
 bounds-r-a c = (fields_eq c.in-Write.is c.requires.0).0.0
 
@@ -66,3 +78,13 @@ returns-in-Less c = rw (c.less.ensures, c.in-Less.is) (effect_of_lem, (fields_eq
 pub returns-in-Read : goal.returns-in-Read
 unfolding Does access_of result_of place_after place_behind form_of
 returns-in-Read c = rw c.in-Read.is (effect_of_lem, (fields_eq c.in-Read.is c.requires.0).0.0, (fields_eq c.in-Read.is c.requires.0).1)
+
+-- `Instruction::Mulh(a, b, c) => Move::Sets(a, mulh(r[b as usize], r[c as usize]))`
+pub returns-in-Mulh : goal.returns-in-Mulh
+unfolding Does access_of result_of place_after place_behind form_of
+returns-in-Mulh c = rw (c.mulh.ensures, c.in-Mulh.is) (effect_of_lem, (fields_eq c.in-Mulh.is c.requires.0).0.0)
+
+-- `Instruction::Lesss(a, b, c) => Move::Sets(a, lesss(r[b as usize], r[c as usize]))`
+pub returns-in-Lesss : goal.returns-in-Lesss
+unfolding Does access_of result_of place_after place_behind form_of
+returns-in-Lesss c = rw (c.lesss.ensures, c.in-Lesss.is) (effect_of_lem, (fields_eq c.in-Lesss.is c.requires.0).0.0)
