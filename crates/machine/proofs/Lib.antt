@@ -6,7 +6,6 @@
 --     Fields       what a sound file's instruction reaches, and where it goes
 --     Kept         the state in arrays, through one entry
 --     Effect       what an instruction does, as the code says it
---     SignedNumbers  signed numbers, as the code has them
 --     Nearest      MULH's rounding in the standard's words
 --     Products     the tables of "Signed hundredths"
 --     Ends         a thread that is not at its end was never idle
@@ -24,7 +23,6 @@ pub mod Block
 pub mod Fields
 pub mod Kept
 pub mod Effect
-pub mod SignedNumbers
 pub mod Nearest
 pub mod Products
 pub mod Ends

@@ -1,9 +1,9 @@
 // What MULH and LESSS compute (the standard, "Signed hundredths").
 ghost use Rattle.std.specs.Prelude.{◌≡◌, ◌≤◌, ◌^◌, ◌*ℤ◌, unsigned_abs};
-ghost use Rattle.machine.specs.Signed.{signed_value, rounded_hundredth, in_span, mulh, lesss};
+ghost use Rattle.machine.specs.Signed.{signed_value, register_of, Nearest, in_span, mulh, lesss};
 
 // A register read as two's complement.
-#[tactic(auto, using(crate::proofs::SignedNumbers::signed_value_is))]
+#[tactic(auto, unfolding(crate::specs::Signed::signed_value))]
 fn signed_value(x: u32) -> i32
     ensures { result ≡ signed_value x }
 {
@@ -19,10 +19,9 @@ fn product(b: u32, c: u32) -> i64
 }
 
 // Divided by 100, to nearest: division drops the remainder, so a half in the number's direction is added before.
-#[tactic(auto, using(crate::proofs::SignedNumbers::rounded_negative, crate::proofs::SignedNumbers::rounded_positive))]
 fn rounded_hundredth(p: i64) -> i64
     requires { unsigned_abs p ≤ 2 ^ 62 }
-    ensures { result ≡ rounded_hundredth p }
+    ensures { Nearest p result }
 {
     if p < 0 {
         (p - 50) / 100
@@ -32,11 +31,19 @@ fn rounded_hundredth(p: i64) -> i64
 }
 
 // The number of the signed span nearest to it.
-#[tactic(auto, using(crate::proofs::SignedNumbers::in_span_is))]
+#[tactic(auto, unfolding(crate::specs::Signed::in_span))]
 fn in_span(z: i64) -> i32
     ensures { result ≡ in_span z }
 {
     z.clamp(i64::from(i32::MIN), i64::from(i32::MAX)) as i32
+}
+
+// Back into a register.
+#[tactic(auto, unfolding(crate::specs::Signed::register_of))]
+fn register_of(z: i32) -> u32
+    ensures { result ≡ register_of z }
+{
+    z.cast_unsigned()
 }
 
 // MULH: b times c divided by 100. A call of its own: the loop over the entries of a list stays small without it.
@@ -44,7 +51,7 @@ fn in_span(z: i64) -> i32
 pub fn mulh(b: u32, c: u32) -> u32
     ensures { result ≡ mulh b c }
 {
-    in_span(rounded_hundredth(product(b, c))).cast_unsigned()
+    register_of(in_span(rounded_hundredth(product(b, c))))
 }
 
 // LESSS: 1 if the first is below the second, else 0.
