@@ -11,6 +11,7 @@
 --     Search       the search for the first offence
 --     TopFirst     the stack of src/stack.rt
 --     Scan         the scan for the first place where nesting is broken
+--     Innermost    the innermost open entry
 --     Walking      the walk over a code section, one instruction at a time
 --     Marks        the table of writers, filled an instruction at a time
 --     MarkedParts  ... part by part of the file
@@ -40,6 +41,7 @@ pub mod Writers
 pub mod Search
 pub mod TopFirst
 pub mod Scan
+pub mod Innermost
 pub mod Walking
 pub mod Marks
 pub mod MarkedParts

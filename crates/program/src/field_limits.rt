@@ -1,10 +1,9 @@
 // The limits of an instruction's fields (the standard, "Who can bring a number about": 7, "a register, variable, lock, statement or zero
 // field wrong").
-ghost use Rattle.std.specs.Prelude.{◌≡◌, ℕ, ◌≤◌};
+ghost use Rattle.std.specs.Prelude.{◌≡◌, ℕ, ◌+◌, ◌≤◌, ◌<◌, get_or, length};
 ghost use Rattle.program.specs.Instruction.{decode, decode_at, is_valid};
-ghost use Rattle.program.specs.Limits.{instruction_size, lock_limit, variable_limit};
-ghost use Rattle.program.specs.Internal.Rows.{limits_of, number_of, row_of};
-ghost use Rattle.std.specs.Prelude.{◌+◌, length};
+ghost use Rattle.program.specs.Limits.{instruction_size};
+ghost use Rattle.program.specs.Internal.Rows.{limits_of, no_limits, number_of, row_of};
 
 use crate::instruction::{ROW_COUNT, Row};
 
@@ -27,15 +26,14 @@ pub struct Limits {
     pub locks: usize,
     pub variables: usize,
     rows: [FieldLimits; ROW_COUNT],
-    pub ghost few_locks: { locks ≤ lock_limit },
-    pub ghost few_variables: { variables ≤ variable_limit },
     pub ghost by_counts: { rows ≡ limits_of locks variables },
 }
 
 impl Limits {
+    // Of any counts that 16 bits hold.
     #[tactic(auto, unfolding(crate::specs::Internal::Rows::limits_of))]
     pub fn new(locks: usize, variables: usize) -> Limits
-        requires { (locks ≤ lock_limit) × (variables ≤ variable_limit) }
+        requires { (locks < 65536) × (variables < 65536) }
         ensures { (result.locks ≡ locks) × (result.variables ≡ variables) }
     {
         let lock = locks as u16;
@@ -68,11 +66,18 @@ impl Limits {
         }
     }
 
+    // The limits of a row.
+    pub fn of_row(&self, row: Row) -> FieldLimits
+        ensures { result ≡ get_or (limits_of self.now.locks self.now.variables) (number_of row) no_limits }
+    {
+        self.rows[row.number()]
+    }
+
     // Whether the fields of an instruction of this row are right.
     pub fn allows(&self, row: Row, a: u8, b: u8, c: u8) -> bool
         ensures { (op : ℕ) → number_of row ≡ row_of op → result ≡ is_valid (decode self.now.locks self.now.variables op a b c) }
     {
-        let limits = self.rows[row.number()];
+        let limits = self.of_row(row);
         (u16::from(a) < limits.0) & (u16::from(b) < limits.1) & (u16::from(c) < limits.2)
     }
 

@@ -1,12 +1,13 @@
 // A decoded instruction (the standard, "The file": the table of op codes).
-ghost use Rattle.std.specs.Prelude.{◌≡◌, true, ℕ, ◌+◌, ◌≤◌, ◌<◌, length};
+ghost use Rattle.std.specs.Prelude.{◌≡◌, true, ℕ, ◌+◌, ◌/◌, ◌%◌, ◌^◌, ◌≤◌, ◌<◌, length, ltb, eqb};
+ghost use Rattle.program.specs.Choice.{choose};
 ghost use Rattle.program.specs.Instruction.{decode_at, decoded_instruction};
 ghost use Rattle.program.specs.Instruction as Table;
 ghost use Rattle.program.specs.Limits.{instruction_size};
-ghost use Rattle.program.specs.Internal.Rows.{instruction_in, is_nesting, number_of, row_count, row_of};
+ghost use Rattle.program.specs.Internal.Rows.{instruction_in, is_nesting, nesting_rows, number_of, row_count, row_of};
 ghost use Rattle.program.specs.Internal.Seen.{RegistersGood};
 
-use crate::op_codes::ROWS;
+use crate::op_codes::{IN_ORDER, ROWS};
 
 #[derive(Clone, Copy)]
 pub enum Instruction {
@@ -64,6 +65,16 @@ impl Row {
         ROWS[op as usize]
     }
 
+    // The row with a number; one that no row has stands for no op code.
+    pub fn numbered(n: u8) -> Row
+        ensures { number_of result ≡ choose (ltb n row_count) n 0 }
+    {
+        if ROW_COUNT <= n as usize {
+            return Row::Unknown;
+        }
+        IN_ORDER[n as usize]
+    }
+
     // Its number.
     pub fn number(self) -> usize
         ensures value { result ≡ number_of self }
@@ -108,6 +119,25 @@ impl Row {
             Row::End | Row::Unknown => Instruction::End,
         }
     }
+}
+
+// The numbers of the openers' and the closers' rows, a bit each.
+const NESTING_ROWS: u32 = 0xFC00;
+
+// Whether the row with a number is an opener's or a closer's.
+pub fn is_nesting(row: u8) -> bool
+    requires { row < 32 }
+    ensures { result ≡ eqb (nesting_rows / 2 ^ row % 2) 1 }
+{
+    (NESTING_ROWS >> row) % 2 == 1
+}
+
+// The instruction of the row with a number, where its fields are right.
+pub fn instruction_of(row: u8, a: u8, b: u8, c: u8) -> Instruction
+    ensures { (locks variables op : ℕ) → row ≡ row_of op → Table.is_valid (Table.decode locks variables op a b c) ≡ true
+        → (result ≡ decoded_instruction (Table.decode locks variables op a b c)) × RegistersGood result }
+{
+    Row::numbered(row).instruction(a, b, c)
 }
 
 // The instruction of the four bytes at an offset, where they are valid.

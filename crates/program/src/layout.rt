@@ -62,6 +62,7 @@ fn code_section(
     bit: u8,
     writers: &mut [u8; VARIABLE_LIMIT],
 ) -> Result<(usize, Cursor), Refusal>
+    requires { limits.now.variables ≤ variable_limit }
     ensures { (result ≡ code_section limits.now.locks limits.now.variables s.now c)
         × IfOk result (λ x. writers.new ≡ marked_all bit (instructions_at limits.now.locks limits.now.variables s.now x.0 (c.at + 2)) writers.old) }
 {
@@ -80,7 +81,7 @@ fn code_sections(
     n: usize,
     writers: &mut [u8; VARIABLE_LIMIT],
 ) -> Result<(usize, Cursor), Refusal>
-    requires { n ≤ thread_limit }
+    requires { (limits.now.variables ≤ variable_limit) × (n ≤ thread_limit) }
     ensures { (result ≡ code_sections limits.now.locks limits.now.variables s.now n c)
         × IfOk result (λ x. writers.new ≡ marked_codes 0 (codes_at limits.now.locks limits.now.variables s.now n c.at) writers.old) }
 {

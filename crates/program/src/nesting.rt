@@ -1,11 +1,14 @@
 // Nesting (the standard, "The file": from "A place is an instruction's index in its thread" on): a scan with a stack of open entries.
-ghost use Rattle.std.specs.Prelude.{◌≡◌, ℕ, ◌+◌, ◌*◌, ◌^◌, ◌<◌, true, eqb};
+ghost use Rattle.std.specs.Prelude.{◌≡◌, ℕ, ◌+◌, ◌*◌, ◌^◌, ◌<◌, List, eqb, length, ltb};
+ghost use Rattle.std.specs.List.{slice_get};
+ghost use Rattle.program.specs.Limits.{entry_limit};
 ghost use Rattle.program.specs.Nesting.{opening, at_else, at_again, at_end, nest};
 ghost use Rattle.program.specs.Nesting as Nesting;
-ghost use Rattle.program.specs.Internal.Change.{changed, innermost_place, Fulfils, Room};
+ghost use Rattle.program.specs.Internal.Change.{changed, innermost_place, numbered_form, Fulfils, Innermost, Room};
 ghost use Rattle.program.specs.Internal.Rows.{row_form};
 
 use crate::instruction::Row;
+use crate::limits::ENTRY_LIMIT;
 use crate::stack::Stack;
 
 // The entries that openers open. Each names the place of its closer.
@@ -71,17 +74,17 @@ pub fn innermost_place(entries: &Stack<Entry>, end: usize) -> usize
     }
 }
 
-// The four functions below and change_at speak of an opener or a closer at place p with distance n. `here` says whether the innermost entry
-// names p: the walk keeps the named place in a number, and says there why. So each contract has as a premise that `here` is that test, for any
-// end of the code after p.
+// The functions below speak of an opener or a closer at place p with distance n. Of the open entries they take the innermost, `top`, and
+// whether there is room for another. `here` says whether the innermost entry names p: the walk keeps the named place in a number, and says
+// there why. So each contract has as premises that these are what they say, of any entries, for any end of the code after p.
 
 // IF, WHILE and ATOMIC: "another instruction stands at the innermost named place", "a distance is 0", "a 17th entry opens".
 #[tactic(auto, unfolding(crate::specs::Nesting::opening), using(crate::proofs::Scan::place_unnamed))]
-fn at_opener(p: usize, here: bool, n: usize, e: Entry, entries: &Stack<Entry>) -> Option<Change>
-    ensures { (end : ℕ) → p < end → here ≡ eqb (innermost_place end entries.now) p
-        → Fulfils result entries.now (opening p n e entries.now) }
+fn at_opener(p: usize, here: bool, n: usize, e: Entry, room: bool) -> Option<Change>
+    ensures { (end : ℕ) (es : List Entry) → p < end → here ≡ eqb (innermost_place end es) p → room ≡ ltb (length es) entry_limit
+        → Fulfils result es (opening p n e es) }
 {
-    if !here & (n != 0) & entries.has_room() {
+    if !here & (n != 0) & room {
         return Some(Change::Push(e));
     }
     None
@@ -89,12 +92,12 @@ fn at_opener(p: usize, here: bool, n: usize, e: Entry, entries: &Stack<Entry>) -
 
 // "ELSE must stand at the place its IF named and puts the place of its END there instead."
 #[tactic(auto, unfolding(crate::specs::Nesting::at_else, crate::specs::Nesting::named))]
-fn at_else(p: usize, here: bool, n: usize, entries: &Stack<Entry>) -> Option<Change>
+fn at_else(p: usize, here: bool, n: usize, top: Option<Entry>) -> Option<Change>
     requires { (p < 2 ^ 62) × (n < 65536) }
-    ensures { (end : ℕ) → p < end → here ≡ eqb (innermost_place end entries.now) p
-        → Fulfils result entries.now (at_else p n entries.now) }
+    ensures { (end : ℕ) (es : List Entry) → p < end → here ≡ eqb (innermost_place end es) p → top ≡ slice_get es 0
+        → Fulfils result es (at_else p n es) }
 {
-    match entries.top() {
+    match top {
         Some(Entry::Then(_)) if here & (n != 0) => Some(Change::Replace(Entry::Else(p + n))),
         _ => None,
     }
@@ -103,11 +106,11 @@ fn at_else(p: usize, here: bool, n: usize, entries: &Stack<Entry>) -> Option<Cha
 // "AGAIN's n differs from its WHILE's". (at_again and at_end differ in little and stay two: there is one for each sentence of the standard, and
 // each has its own test.)
 #[tactic(auto, unfolding(crate::specs::Nesting::at_again, crate::specs::Nesting::named))]
-fn at_again(here: bool, n: usize, entries: &Stack<Entry>) -> Option<Change>
-    ensures { (p end : ℕ) → p < end → here ≡ eqb (innermost_place end entries.now) p
-        → Fulfils result entries.now (at_again p n entries.now) }
+fn at_again(here: bool, n: usize, top: Option<Entry>) -> Option<Change>
+    ensures { (p end : ℕ) (es : List Entry) → p < end → here ≡ eqb (innermost_place end es) p → top ≡ slice_get es 0
+        → Fulfils result es (at_again p n es) }
 {
-    match entries.top() {
+    match top {
         Some(Entry::Loop(_, m)) if here & (n != 0) & (n == m) => Some(Change::Pop),
         _ => None,
     }
@@ -115,30 +118,57 @@ fn at_again(here: bool, n: usize, entries: &Stack<Entry>) -> Option<Change>
 
 // The closer of an ELSE or an ATOMIC.
 #[tactic(auto, unfolding(crate::specs::Nesting::at_end, crate::specs::Nesting::named))]
-fn at_end(here: bool, entries: &Stack<Entry>) -> Option<Change>
-    ensures { (p end : ℕ) → p < end → here ≡ eqb (innermost_place end entries.now) p
-        → Fulfils result entries.now (at_end p entries.now) }
+fn at_end(here: bool, top: Option<Entry>) -> Option<Change>
+    ensures { (p end : ℕ) (es : List Entry) → p < end → here ≡ eqb (innermost_place end es) p → top ≡ slice_get es 0
+        → Fulfils result es (at_end p es) }
 {
-    match entries.top() {
+    match top {
         Some(Entry::Else(_) | Entry::Block(_)) if here => Some(Change::Pop),
         _ => None,
     }
 }
 
-// What the opener or closer of a row with distance n does at place p, where `here` says whether the innermost entry names it; none: nesting
-// is broken there.
+// What the opener or closer of a row does; none: nesting is broken there.
 #[tactic(auto, unfolding(crate::specs::Nesting::nest, crate::specs::View::form_of))]
+fn change_of(
+    p: usize,
+    here: bool,
+    row: Row,
+    n: usize,
+    top: Option<Entry>,
+    room: bool,
+) -> Option<Change>
+    requires { (p < 2 ^ 62) × (n < 65536) }
+    ensures { (a end : ℕ) (es : List Entry) → p < end → here ≡ eqb (innermost_place end es) p → top ≡ slice_get es 0
+        → room ≡ ltb (length es) entry_limit → Fulfils result es (nest p (row_form row a n) es) }
+{
+    match row {
+        Row::If => at_opener(p, here, n, Entry::Then(p + n), room),
+        Row::Else => at_else(p, here, n, top),
+        Row::While => at_opener(p, here, n, Entry::Loop(p + n, n), room),
+        Row::Again => at_again(here, n, top),
+        Row::Atomic => at_opener(p, here, n, Entry::Block(p + n), room),
+        _ => at_end(here, top),
+    }
+}
+
+// What it does where these entries are open.
 pub fn change_at(p: usize, here: bool, row: Row, n: usize, entries: &Stack<Entry>) -> Option<Change>
     requires { (p < 2 ^ 62) × (n < 65536) }
     ensures { (a end : ℕ) → p < end → here ≡ eqb (innermost_place end entries.now) p
         → Fulfils result entries.now (nest p (row_form row a n) entries.now) }
 {
-    match row {
-        Row::If => at_opener(p, here, n, Entry::Then(p + n), entries),
-        Row::Else => at_else(p, here, n, entries),
-        Row::While => at_opener(p, here, n, Entry::Loop(p + n, n), entries),
-        Row::Again => at_again(here, n, entries),
-        Row::Atomic => at_opener(p, here, n, Entry::Block(p + n), entries),
-        _ => at_end(here, entries),
-    }
+    change_of(p, here, row, n, entries.top(), entries.has_room())
+}
+
+// What that of the row with a number does, where e is the innermost open entry, if there is one, `place` what it names, and `depth` how many
+// are open.
+pub fn turn_at(p: usize, row: u8, n: usize, place: usize, e: Entry, depth: usize) -> Option<Change>
+    requires { (p < 2 ^ 62) × (n < 65536) }
+    ensures { (a : ℕ) (es : List Entry) → Innermost p (eqb place p) e es → length es ≡ depth
+        → Fulfils result es (nest p (numbered_form row a n) es) }
+{
+    let top = (depth != 0).then_some(e);
+    let row = Row::numbered(row);
+    change_of(p, place == p, row, n, top, depth < ENTRY_LIMIT)
 }

@@ -1,4 +1,6 @@
-// The row of each op code (the standard, "The file": the table of op codes): a file of its own, in which the rows go by their short names.
+// The row of each op code (the standard, "The file": the table of op codes), and of each number: a file of its own, in which the rows go by
+// their short names.
+use crate::instruction::ROW_COUNT;
 use crate::instruction::Row::{
     self, Add, Again, Atomic, Copy, Else, End, Give, If, Less, Lesss, Mulh, Read, Set, Sub, Take,
     Unknown, While, Write,
@@ -20,4 +22,10 @@ pub static ROWS: [Row; 256] = [
     NO, NO, NO, NO, NO, NO, NO, NO, NO, NO, NO, NO, NO, NO, NO, NO, NO, NO, NO, NO, NO, NO, NO, NO,
     NO, NO, NO, NO, NO, NO, NO, NO, NO, NO, NO, NO, NO, NO, NO, NO, NO, NO, NO, NO, NO, NO, NO, NO,
     NO, NO,
+];
+
+// By the number.
+pub static IN_ORDER: [Row; ROW_COUNT] = [
+    NO, Set, Copy, Add, Sub, Less, Read, Write, Take, Give, If, Else, While, Again, Atomic, End,
+    Mulh, Lesss,
 ];

@@ -71,15 +71,23 @@ impl<'a> ProgramFile<'a> {
     }
 
     // How many report bytes the codes before code c have: code c's report starts there.
-    #[tactic(auto, unfolding(crate::specs::Internal::Sections::bytes_before), using(crate::proofs::SectionTable::bytes_one_more, crate::proofs::SectionTable::bytes_inside))]
     pub fn bytes_before(&self, c: usize) -> usize
         requires { (c ≤ code_limit) × (bytes_before self.now.counts c ≤ report_limit) }
         ensures { result ≡ bytes_before self.now.counts c }
     {
-        let mut bytes = 0;
-        for u in 0..c {
-            bytes = bytes + self.counts[u] + 1;
-        }
-        bytes
+        bytes_before(&self.counts, c)
     }
+}
+
+// How many report bytes the codes before code c have, by the counts of all.
+#[tactic(auto, unfolding(crate::specs::Internal::Sections::bytes_before), using(crate::proofs::SectionTable::bytes_one_more, crate::proofs::SectionTable::bytes_inside))]
+pub fn bytes_before(counts: &[usize; CODE_LIMIT], c: usize) -> usize
+    requires { (c ≤ code_limit) × (bytes_before counts.now c ≤ report_limit) }
+    ensures { result ≡ bytes_before counts.now c }
+{
+    let mut bytes = 0;
+    for u in 0..c {
+        bytes = bytes + counts[u] + 1;
+    }
+    bytes
 }

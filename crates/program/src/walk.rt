@@ -50,7 +50,7 @@ pub fn walk(
     bit: u8,
     writers: &mut [u8; VARIABLE_LIMIT],
 ) -> Result<(), Refusal>
-    requires { (start + instruction_size * n ≤ length s.now) × (n ≤ instruction_limit) }
+    requires { (limits.now.variables ≤ variable_limit) × (start + instruction_size * n ≤ length s.now) × (n ≤ instruction_limit) }
     ensures result { result ≡ walked (first_invalid limits.now.locks limits.now.variables s.now n start)
         (offset_from start (first_broken 0 (instructions_at limits.now.locks limits.now.variables s.now n start) [])) }
     ensures marked { IfOk result

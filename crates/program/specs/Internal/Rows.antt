@@ -9,10 +9,12 @@
 --     instruction_in      ... its instruction
 --     is_plain            a form is no opener's or closer's
 --     is_nesting          whether a row is an opener's or a closer's
+--     nesting_rows        the numbers of those rows, a bit each
 --     at_distance         a form with another distance
 --     row_form            the form of a row with field a and distance n
 --     limit_of            the number that a right field lies below
 --     row_limits          ... of each field of a row of the table
+--     no_limits           what no field lies below
 --     limits_of           ... of all rows, by number
 --     fits                three fields below the limits of their row
 use Rattle.std.specs.Prelude.{ℕ, zero, suc, ◌+◌, Bool, true, false, ◌&&◌, not, List, [], ◌∷◌, map, length, get_or, ltb, eqb}
@@ -88,6 +90,10 @@ is_plain form.End = false
 abbrev pub is_nesting : Row → Bool
 is_nesting r = ltb 0 (number_of r) && not (is_plain (form_of (instruction_in r 0 0 0)))
 
+-- rows 10 to 15
+abbrev pub nesting_rows : ℕ
+nesting_rows = 64512
+
 abbrev pub at_distance : (n : ℕ) → Form → Form
 at_distance n form.Plain = form.Plain
 at_distance n (form.If a m) = form.If a n
@@ -113,9 +119,12 @@ limit_of locks variables statement = statement_limit
 abbrev pub row_limits : (locks variables : ℕ) → TableRow → FieldLimits
 row_limits locks variables r = record { 0 = limit_of locks variables r.a; 1 = limit_of locks variables r.b; 2 = limit_of locks variables r.c }
 
--- no field lies below those of `Unknown`
+-- those of `Unknown`
+abbrev pub no_limits : FieldLimits
+no_limits = record { 0 = 0; 1 = 0; 2 = 0 }
+
 unfoldable pub limits_of : (locks variables : ℕ) → List FieldLimits
-limits_of locks variables = record { 0 = 0; 1 = 0; 2 = 0 } ∷ map (row_limits locks variables) (table 0 0 0)
+limits_of locks variables = no_limits ∷ map (row_limits locks variables) (table 0 0 0)
 
 abbrev pub fits : FieldLimits → (a b c : ℕ) → Bool
 fits l a b c = ltb a l.0 && ltb b l.1 && ltb c l.2

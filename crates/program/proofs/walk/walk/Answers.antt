@@ -46,9 +46,8 @@ pub mark-requires : goal.mark-requires
 unfolding decode_at
 mark-requires c =
     λ e.
-    let x = c.args in
     let h = row_variable _ _ _ _ _ _ (valid_there ((goal.at.mark-requires c).Else-not-allows_at)) (sym c.of-row.ensures ∙ e) in
-    omega (arith, x.limits.now.few_variables)
+    omega (arith, c.requires.0)
 
 pub loop-p-preserved : goal.loop-p-preserved
 loop-p-preserved c =
