@@ -3,7 +3,7 @@
 --     LockSets        lock sets, a bit for each lock
 --     VariableKinds   the kind of a variable, found in the file
 --     AccessRaces     two threads' accesses of one variable, one of them a WRITE, are A
---     AccessRules     what a variable asks of a code, as a byte
+--     AccessRules     what a variable asks of a code, as a rule
 --     Effects         what an instruction does in the walk
 --     Reports         the report's bytes stored one after the other
 --     Frames          how the end of a part is tested

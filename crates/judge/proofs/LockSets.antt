@@ -2,6 +2,7 @@
 --     same_eq                    sets that compare as equal are equal
 --     same_self                  a set compares as equal to itself
 --     empty_holds                the empty set holds nothing
+--     none_above                 nor does a set of n bits hold a lock from n on
 --     with_self, with_other      what a set holds after a lock that it did not hold was added
 --     without_self, without_other
 --                                ... after one that it held was taken out
@@ -9,7 +10,7 @@
 --     with_below, without_above  the bits of such a set stay within their number
 use Rattle.std.proofs.Common.{ℕ, ◌+◌, ◌-◌, ◌*◌, ◌%◌, ◌^◌, ◌≤◌, ◌<◌, ◌≡◌, refl, ◌∙◌, ap, ◌≢◌, true, false, one-mul, arith, eqb, shl_exact, eqb-true, eq-eqb, ne_eqb}
 use Rattle.std.proofs.lemmas.Nat.{pow_below, xor_lt}
-use Rattle.std.proofs.lemmas.Nat.Bits.{and_pow, bit_at-lt, bit_at-pow_other, bit_at-pow_same, bit_at-zero, bit_at_xor}
+use Rattle.std.proofs.lemmas.Nat.Bits.{and_pow, bit_at_above, bit_at-lt, bit_at-pow_other, bit_at-pow_same, bit_at-zero, bit_at_xor}
 use Rattle.std.specs.Int.{bit_at}
 use Rattle.std.specs.Int.Bits.{bit_xor, xor_add_and}
 use borrow.Author.Tests.{eqb-false}
@@ -41,6 +42,10 @@ xor_other x k j n = rw (bit_at_xor x (2 ^ k) j, bit_at-pow_other k j n) (omega (
 pub empty_holds : (k : ℕ) → holds empty k ≡ false
 unfolding empty holds
 empty_holds k = ne_eqb (bit_at 0 k) 1 (λ e. absurd (omega (arith, bit_at-zero k)))
+
+pub none_above : (s : LockSet) (n k : ℕ) → s.bits < 2 ^ n → n ≤ k → holds s k ≡ false
+unfolding holds
+none_above s n k small above = ne_eqb (bit_at s.bits k) 1 (λ e. absurd (omega (arith, bit_at_above s.bits n k small above)))
 
 -- the bit of a lock that is in a set, and of one that is not
 held_bit : (s : LockSet) (k : ℕ) → holds s k ≡ true → bit_at s.bits k ≡ 1

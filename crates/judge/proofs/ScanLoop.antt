@@ -8,11 +8,11 @@
 --     Scanning                       what holds at the loop's head
 --     scanning_start                 ... where the loop begins
 --     refused_here, refused_step     a refusal of an instruction is one of the code
---     access_within                  what an instruction accesses is within the limits
+--     access_below, access_within    what an instruction accesses is below its count, and within the limits
 --     ready                          what its effect asks of what is carried
 --     scanning_next                  ... after an instruction, by what is carried on from it
 --     scanning_end                   the code's end
-use Rattle.std.proofs.Common.{ℕ, suc, ◌+◌, ◌*◌, ◌-◌, ◌≤◌, ◌<◌, ◌≡◌, refl, sym, ◌∙◌, ap, ap₂, subst, Bool, true, false, not, List, [], ◌∷◌, add-one, arith, length, get_or, set, drop, length-set, Ok, Err}
+use Rattle.std.proofs.Common.{ℕ, suc, ◌+◌, ◌*◌, ◌-◌, ◌≤◌, ◌<◌, ◌≡◌, refl, sym, ◌∙◌, ap, ap₂, subst, Bool, true, false, not, List, [], ◌∷◌, add-one, arith, length, get_or, set, drop, length-set, None, Ok, Err}
 use Rattle.atomicity.specs.Atomicity.{report_byte, closure, join}
 use Rattle.atomicity.specs.declared.Atomicity.{Atomicity}
 use Rattle.program.specs.View.{access_of}
@@ -20,7 +20,7 @@ use Rattle.program.specs.Answer.{Answer, ◌>>=◌, require}
 use Rattle.program.specs.Instruction.{decode_at, decoded_instruction}
 use Rattle.program.specs.Layout.{program_of, instructions_at}
 use Rattle.program.specs.Limits.{entry_limit, lock_limit, variable_limit}
-use Rattle.program.specs.Internal.Sections.{Located, SectionTable, no_section}
+use Rattle.program.specs.Nesting.{first_broken}
 use Rattle.program.specs.Internal.Sound.{AccessBelow}
 use Rattle.program.specs.Internal.WellFormed.{Passes}
 use Rattle.program.specs.declared.instruction.Instruction.{Instruction}
@@ -153,18 +153,8 @@ module _ (n p : ℕ) (is : List Instruction) (x : Carried) (es : List Entry) (ma
 
 -- ---- what holds at the loop's head
 
--- code c of a file, its report written from `at` on
-module _ (s : List ℕ) (l : Layout) (starts counts : List ℕ) (table : SectionTable s l starts counts) (c : ℕ) (is_code : c < l.threads) (at : ℕ) (report₀ : List ℕ) where
-  -- where its first instruction lies, and how many it has
-  abbrev pub start : ℕ
-  start = get_or starts c 0
-
-  abbrev pub count : ℕ
-  count = get_or counts c 0
-
-  located : Located s l start count c
-  located = table.located c is_code
-
+-- code c, whose `count` instructions begin at `start`, its report written from `at` on
+module _ (s : List ℕ) (l : Layout) (c start count at : ℕ) (report₀ : List ℕ) where
   -- the instructions from an offset on
   abbrev pub instructions_from : ℕ → ℕ → List Instruction
   instructions_from n d = instructions_at l.locks l.variables s n d
@@ -179,11 +169,11 @@ module _ (s : List ℕ) (l : Layout) (starts counts : List ℕ) (table : Section
 
   -- the scan of the whole code, and then its end
   abbrev pub code_scanned : Answer (List ℕ)
-  code_scanned = scan_code (program_of s l) c at report₀ (get_or (program_of s l).codes c no_section)
+  code_scanned = scan_code (program_of s l) c at report₀ (record { start = start; code = instructions_from count start })
 
   scanned_is : code_scanned ≡ (code_scan >>= λ x. ending (start + 4 * count) (at + count) x)
   unfolding scan_code
-  scanned_is = rw (located.section, length-instructions l.locks l.variables s count start)
+  scanned_is = rw (length-instructions l.locks l.variables s count start)
 
   -- a refusal of the scan is one of the code
   pub refused_scan : (r : Refusal) → Err r ≡ code_scan → Err r ≡ code_scanned
@@ -197,28 +187,28 @@ module _ (s : List ℕ) (l : Layout) (starts counts : List ℕ) (table : Section
     pub matches : Matches (length report₀) entries x.frames
     pub rest_is_whole : scan_from p x ≡ code_scan
 
-  pub scanning_start : Scanning (starting report₀) 0
+  pub scanning_start : first_broken 0 (instructions_from count start) [] ≡ None → Scanning (starting report₀) 0
   unfolding starting
-  scanning_start =
+  scanning_start well_nested =
       let e₁ : start + 4 * 0 ≡ start = omega arith in
       let e₂ : at + 0 ≡ at = omega arith in
       let e₃ : count - 0 ≡ count = omega arith in
       record {
         report_length = refl;
         entries = [];
-        nested = rw (e₁, e₃) located.nested;
+        nested = rw (e₁, e₃) well_nested;
         matches = match_none;
         rest_is_whole = rw (e₁, e₂, e₃);
       }
 
   -- the instruction at place p, where what is carried is x
-  module _ (x : Carried) (p : ℕ) (k : Scanning x p) (more : p < count) (i : Instruction)
-      (is_i : i ≡ decoded_instruction (decode_at l.locks l.variables s (start + 4 * p))) where
-    access_below : AccessBelow l.locks l.variables (access_of i)
+  module _ (x : Carried) (p : ℕ) (k : Scanning x p) (more : p < count) (few_locks : l.locks ≤ lock_limit) (few_variables : l.variables ≤ variable_limit)
+      (i : Instruction) (is_i : i ≡ decoded_instruction (decode_at l.locks l.variables s (start + 4 * p))) where
+    pub access_below : AccessBelow l.locks l.variables (access_of i)
     access_below = rw is_i (instruction_access l.locks l.variables s (start + 4 * p))
 
     pub access_within : AccessBelow lock_limit variable_limit (access_of i)
-    access_within = access_wider table.sound.locks table.sound.variables (access_of i) access_below
+    access_within = access_wider few_locks few_variables (access_of i) access_below
 
     -- the instructions after it
     abbrev after : List Instruction

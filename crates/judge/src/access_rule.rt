@@ -6,9 +6,11 @@ ghost use Rattle.program.specs.Choice.{choose};
 ghost use Rattle.program.specs.Layout.{program_of};
 ghost use Rattle.program.specs.Internal.Bounds.{code_limit};
 ghost use Rattle.program.specs.Internal.Marks.{besides, writer_table};
+ghost use Rattle.program.specs.Internal.Sound.{SoundFile};
 ghost use Rattle.judge.specs.Internal.Rule.{rule_of, RuleTables};
 ghost use Rattle.judge.specs.declared.access_rule.Rule.TheVariants.{Free, Never};
 
+use program::layout::Layout;
 use program::limits::{RECORDS_START, VARIABLE_LIMIT, VARIABLE_SIZE};
 use program::sections::ProgramFile;
 use program::variable::{Kind, kind_at};
@@ -56,6 +58,31 @@ impl Rule {
     }
 }
 
+// The rules of all variables for one code, by the writers of each.
+pub fn fill_rules(
+    bytes: &[u8],
+    layout: Layout,
+    code: usize,
+    writers: &[u8; VARIABLE_LIMIT],
+    reads: &mut [Rule; VARIABLE_LIMIT],
+    writes: &mut [Rule; VARIABLE_LIMIT],
+)
+    requires { SoundFile bytes.now layout × (code < code_limit) × (writers.now ≡ writer_table (program_of bytes.now layout)) }
+    ensures { RuleTables bytes.now layout code reads.new writes.new }
+{
+    for v in 0..layout.variables {
+        let kind = kind_at(
+            bytes,
+            RECORDS_START + VARIABLE_SIZE * v,
+            layout.locks,
+            layout.threads,
+        );
+        let others = written_by_other(writers[v], code);
+        reads[v] = Rule::of(kind, code, false, others);
+        writes[v] = Rule::of(kind, code, true, true);
+    }
+}
+
 // The rules of all variables of a file for one of its codes: two arrays of the limit's size, since there is no heap and an access looks into
 // one of the two, whose Rules have a byte or two each.
 #[derive(Drop)]
@@ -78,20 +105,16 @@ impl<'a> AccessRules<'a> {
         requires { (code < code_limit) × (writers.now ≡ writer_table (program_of file.now.bytes.now file.now.layout)) }
         ensures { (result.file.now ≡ file.now) × (result.code ≡ code) }
     {
-        let layout = file.layout;
         let mut reads = [Rule::Free; VARIABLE_LIMIT];
         let mut writes = [Rule::Free; VARIABLE_LIMIT];
-        for v in 0..layout.variables {
-            let kind = kind_at(
-                file.bytes,
-                RECORDS_START + VARIABLE_SIZE * v,
-                layout.locks,
-                layout.threads,
-            );
-            let others = written_by_other(writers[v], code);
-            reads[v] = Rule::of(kind, code, false, others);
-            writes[v] = Rule::of(kind, code, true, true);
-        }
+        fill_rules(
+            file.bytes,
+            file.layout,
+            code,
+            writers,
+            &mut reads,
+            &mut writes,
+        );
         AccessRules {
             file,
             code,

@@ -1,19 +1,21 @@
 // What an instruction does in the walk over a code (the standard, "Lock discipline", "Atomicities").
-ghost use Rattle.std.specs.Prelude.{◌≡◌, ◌<◌, not, Ok};
+ghost use Rattle.std.specs.Prelude.{◌≡◌, List, ℕ, ◌<◌, not, Ok};
 ghost use Rattle.program.specs.View.{access_of};
 ghost use Rattle.program.specs.Answer.{require};
 ghost use Rattle.program.specs.Layout.{program_of};
 ghost use Rattle.program.specs.Limits.{lock_limit, variable_limit};
 ghost use Rattle.program.specs.Internal.Sound.{AccessBelow};
+ghost use Rattle.program.specs.declared.layout.Layout.{Layout};
 ghost use Rattle.program.specs.declared.refusal.Refusal.TheVariants.{Taken, NotTaken};
 ghost use Rattle.judge.specs.LockSet.{holds};
 ghost use Rattle.judge.specs.Internal.Effect.{effect_of};
-ghost use Rattle.judge.specs.Internal.Rule.{lock_of, ruled};
+ghost use Rattle.judge.specs.Internal.Rule.{asked_by, lock_of, RuleTables, ruled};
 
 use crate::access_rule::{AccessRules, Rule};
 use crate::frame::Part;
 use crate::lock_set::LockSet;
 use program::instruction::Instruction;
+use program::limits::{LOCK_LIMIT, VARIABLE_LIMIT};
 use program::refusal::Refusal;
 
 #[derive(Clone, Copy)]
@@ -71,21 +73,23 @@ fn giving(k: u8, d: usize, locks: LockSet) -> Result<Effect, Refusal>
     Err(Refusal::NotTaken(d))
 }
 
-// What the instruction at file offset d does where these locks are held.
+// What the instruction at file offset d does where these locks are held, by a code's rules for READs and for WRITEs. That the lock it asks for
+// is below the limit is a clause and no test: with one here judging is slower.
 #[tactic(auto, unfolding(crate::specs::Internal::Effect::effect_of, crate::specs::Internal::Effect::form_effect, crate::specs::Internal::Effect::access_effect, program::specs::View::access_of, program::specs::View::form_of, program::specs::View::statement_of))]
-pub fn effect_of(
+pub(crate) fn effect_below(
     i: Instruction,
     d: usize,
     locks: LockSet,
-    rules: &AccessRules,
+    reads: &[Rule; VARIABLE_LIMIT],
+    writes: &[Rule; VARIABLE_LIMIT],
 ) -> Result<Effect, Refusal>
-    requires { AccessBelow lock_limit variable_limit (access_of i) }
-    ensures { AccessBelow rules.now.file.now.layout.locks rules.now.file.now.layout.variables (access_of i)
-        → result ≡ effect_of (program_of rules.now.file.now.bytes.now rules.now.file.now.layout) rules.now.code d i locks }
+    requires { AccessBelow lock_limit variable_limit (access_of i) × (lock_of (asked_by reads.now writes.now (access_of i)) < lock_limit) }
+    ensures { (s : List ℕ) (l : Layout) (code : ℕ) → RuleTables s l code reads.now writes.now
+        → AccessBelow l.locks l.variables (access_of i) → result ≡ effect_of (program_of s l) code d i locks }
 {
     match i {
-        Instruction::Read(_, v) => by_rule(rules.reads[v as usize], d, locks),
-        Instruction::Write(_, v) => by_rule(rules.writes[v as usize], d, locks),
+        Instruction::Read(_, v) => by_rule(reads[v as usize], d, locks),
+        Instruction::Write(_, v) => by_rule(writes[v as usize], d, locks),
         Instruction::Take(k) => taking(k, d, locks),
         Instruction::Give(k) => giving(k, d, locks),
         Instruction::If(_, _) => Ok(Effect::Opens(Part::Then)),
@@ -96,4 +100,58 @@ pub fn effect_of(
         Instruction::End => Ok(Effect::Closes),
         _ => Ok(Effect::Nothing),
     }
+}
+
+// The rule that an instruction's access is by.
+#[tactic(auto, unfolding(program::specs::View::access_of))]
+fn asked_by(i: Instruction, reads: &[Rule; VARIABLE_LIMIT], writes: &[Rule; VARIABLE_LIMIT]) -> Rule
+    requires { AccessBelow lock_limit variable_limit (access_of i) }
+    ensures { result ≡ asked_by reads.now writes.now (access_of i) }
+{
+    match i {
+        Instruction::Read(_, v) => reads[v as usize],
+        Instruction::Write(_, v) => writes[v as usize],
+        _ => Rule::Free,
+    }
+}
+
+fn lock_of(rule: Rule) -> u8
+    ensures { result ≡ lock_of rule }
+{
+    match rule {
+        Rule::Locked(k) => k,
+        _ => 0,
+    }
+}
+
+// The same for any rules: a lock at or above the limit is in no set, and an access that asks for it is refused.
+pub fn effect_by(
+    i: Instruction,
+    d: usize,
+    locks: LockSet,
+    reads: &[Rule; VARIABLE_LIMIT],
+    writes: &[Rule; VARIABLE_LIMIT],
+) -> Result<Effect, Refusal>
+    requires { AccessBelow lock_limit variable_limit (access_of i) }
+    ensures { (s : List ℕ) (l : Layout) (code : ℕ) → RuleTables s l code reads.now writes.now
+        → AccessBelow l.locks l.variables (access_of i) → result ≡ effect_of (program_of s l) code d i locks }
+{
+    if LOCK_LIMIT <= usize::from(lock_of(asked_by(i, reads, writes))) {
+        return Err(Refusal::Access(d));
+    }
+    effect_below(i, d, locks, reads, writes)
+}
+
+// The same by the rules of a code of a sound file.
+pub fn effect_of(
+    i: Instruction,
+    d: usize,
+    locks: LockSet,
+    rules: &AccessRules,
+) -> Result<Effect, Refusal>
+    requires { AccessBelow lock_limit variable_limit (access_of i) }
+    ensures { AccessBelow rules.now.file.now.layout.locks rules.now.file.now.layout.variables (access_of i)
+        → result ≡ effect_of (program_of rules.now.file.now.bytes.now rules.now.file.now.layout) rules.now.code d i locks }
+{
+    effect_by(i, d, locks, &rules.reads, &rules.writes)
 }

@@ -1,20 +1,22 @@
 // One code judged in one walk (the standard, "Lock discipline", "Atomicities").
 ghost use Rattle.std.specs.Prelude.{◌≡◌, List, ◌∷◌, ℕ, ◌+◌, ◌≤◌, ◌<◌, length, get_or, set};
-ghost use Rattle.program.specs.Internal.Sections.{no_section};
-ghost use Rattle.program.specs.Layout.{program_of};
-ghost use Rattle.program.specs.Limits.{entry_limit, report_limit};
+ghost use Rattle.program.specs.Internal.Sections.{Located, no_section};
+ghost use Rattle.program.specs.Layout.{instructions_at, program_of};
+ghost use Rattle.program.specs.Limits.{entry_limit, lock_limit, report_limit, variable_limit};
 ghost use Rattle.atomicity.specs.Atomicity.{composition, report_byte};
 ghost use Rattle.atomicity.specs.declared.Atomicity.TheVariants.{Both};
+ghost use Rattle.judge.specs.Internal.Rule.{RuleTables};
 ghost use Rattle.judge.specs.Internal.Scan.{Ready, applied, carried, left_by, opened_frame, scan_code, seen, starting};
 ghost use Rattle.judge.specs.Internal.Scan as Scan;
 
-use crate::access_rule::AccessRules;
-use crate::effect::{Effect, effect_of};
+use crate::access_rule::{AccessRules, Rule};
+use crate::effect::{Effect, effect_below};
 use crate::frame::{Closed, Frame, Part};
 use crate::lock_set::LockSet;
 use atomicity::Atomicity;
 use program::instruction::instruction_at;
-use program::limits::ENTRY_LIMIT;
+use program::layout::Layout;
+use program::limits::{ENTRY_LIMIT, INSTRUCTION_SIZE, VARIABLE_LIMIT};
 use program::refusal::Refusal;
 use program::stack::Stack;
 
@@ -132,6 +134,48 @@ impl<'a> Walk<'a> {
     }
 }
 
+// A code of a file.
+#[derive(Clone, Copy)]
+pub struct Code {
+    pub number: usize,
+    // The file offset of its first instruction, and how many it has.
+    pub start: usize,
+    pub count: usize,
+    // Where its first byte stands in the report.
+    pub first: usize,
+}
+
+// One code, of a file that need not be sound in its other codes. The layout is there for the contract: reading has tested the instructions by
+// its counts.
+pub fn walk_section(
+    bytes: &[u8],
+    layout: Layout,
+    code: Code,
+    reads: &[Rule; VARIABLE_LIMIT],
+    writes: &[Rule; VARIABLE_LIMIT],
+    report: &mut [u8],
+) -> Result<(), Refusal>
+    requires { Located bytes.now layout code.start code.count code.number × RuleTables bytes.now layout code.number reads.now writes.now
+        × (layout.locks ≤ lock_limit) × (layout.variables ≤ variable_limit) × (code.first + code.count < report_limit) × (report_limit ≤ length report.old) }
+    ensures { left_by result report.new ≡ scan_code (program_of bytes.now layout) code.number code.first report.old
+        (record { start = code.start; code = instructions_at layout.locks layout.variables bytes.now code.count code.start }) }
+{
+    // What stands in it is never read.
+    let mut room = [Frame::opened(Part::Body, 0, LockSet::empty(), Atomicity::Both); ENTRY_LIMIT];
+    let mut walk = Walk::start(&mut room);
+    for p in 0..code.count {
+        let d = code.start + INSTRUCTION_SIZE * p;
+        let i = instruction_at(bytes, d);
+        let effect = effect_below(i, d, walk.locks, reads, writes)?;
+        walk.apply(effect, d, code.first + p, &mut *report)?;
+    }
+    walk.end(
+        code.start + INSTRUCTION_SIZE * code.count,
+        code.first + code.count,
+        report,
+    )
+}
+
 // The code that the rules are for, its report written from `first` on.
 pub fn walk_code(rules: &AccessRules, first: usize, report: &mut [u8]) -> Result<(), Refusal>
     requires { (rules.now.code < rules.now.file.now.layout.threads) × (first + get_or rules.now.file.now.counts rules.now.code 0 < report_limit)
@@ -140,15 +184,18 @@ pub fn walk_code(rules: &AccessRules, first: usize, report: &mut [u8]) -> Result
         left_by result report.new ≡ scan_code p rules.now.code first report.old (get_or p.codes rules.now.code no_section) }
 {
     let file = rules.file;
-    let count = file.count(rules.code);
-    // What stands in it is never read.
-    let mut room = [Frame::opened(Part::Body, 0, LockSet::empty(), Atomicity::Both); ENTRY_LIMIT];
-    let mut walk = Walk::start(&mut room);
-    for p in 0..count {
-        let d = file.offset_of(rules.code, p);
-        let i = instruction_at(file.bytes, d);
-        let effect = effect_of(i, d, walk.locks, rules)?;
-        walk.apply(effect, d, first + p, &mut *report)?;
-    }
-    walk.end(file.offset_of(rules.code, count), first + count, report)
+    let code = Code {
+        number: rules.code,
+        start: file.offset_of(rules.code, 0),
+        count: file.count(rules.code),
+        first,
+    };
+    walk_section(
+        file.bytes,
+        file.layout,
+        code,
+        &rules.reads,
+        &rules.writes,
+        report,
+    )
 }

@@ -1,6 +1,0 @@
--- `of`: the rules of the variables before v stand in both tables. Assumes nothing.
-use Rattle.judge.proofs.AccessRules.{RulesFilled}
-use Rattle.judge.proofs.access_rule.AccessRules.of.Given as goal
-
-abbrev pub invariant-loop-v : goal.invariant-loop-v
-invariant-loop-v l = RulesFilled l.file.bytes.now l.layout l.code l.reads l.writes l.v
