@@ -74,7 +74,7 @@ fn giving(k: u8, d: usize, locks: LockSet) -> Result<Effect, Refusal>
 }
 
 // What the instruction at file offset d does where these locks are held, by a code's rules for READs and for WRITEs. That the lock it asks for
-// is below the limit is a clause and no test: with one here judging is slower.
+// is below the limit is a clause, and no test at each access of a walk: of a code's rules it is known.
 #[tactic(auto, unfolding(crate::specs::Internal::Effect::effect_of, crate::specs::Internal::Effect::form_effect, crate::specs::Internal::Effect::access_effect, program::specs::View::access_of, program::specs::View::form_of, program::specs::View::statement_of))]
 pub(crate) fn effect_below(
     i: Instruction,
