@@ -185,11 +185,11 @@ module _ (c : ℕ) (is_write : Bool) where
 
     rule_asks : (r : Rule) (k : Kind) → LockGood k → ((t : LockSet) → require (permits k c t is_write) (refusal.Access 0) (Ok e) ≡ ruled r 0 t) → lock_of r < lock_limit
     unfolding ruled
-    rule_asks rule.Free k good says = omega arith
+    rule_asks Free k good says = omega arith
     rule_asks (rule.Locked j) k good says =
         kind_asks j k good (refused_test _ (rw (empty_holds j) at (says empty))) (allowed_test _ (rw (with_self empty j (empty_holds j)) at (says (with_lock empty j))))
-    rule_asks rule.Single k good says = omega arith
-    rule_asks rule.Never k good says = omega arith
+    rule_asks Single k good says = omega arith
+    rule_asks Never k good says = omega arith
 
 module _ (s : List ℕ) (l : Layout) (c : ℕ) (read_rules write_rules : List Rule) (tables : RuleTables s l c read_rules write_rules) where
   pub asked_lock : l.locks ≤ lock_limit → (a : Access) → AccessBelow l.locks l.variables a → lock_of (asked_by read_rules write_rules a) < lock_limit
@@ -206,10 +206,10 @@ module _ (s : List ℕ) (l : Layout) (c : ℕ) (read_rules write_rules : List Ru
   module _ (d : ℕ) (t : LockSet) (small : t.bits < 2 ^ lock_limit) where
     rule_refused : (r : Rule) → lock_limit ≤ lock_of r → ruled r d t ≡ Err (refusal.Access d)
     unfolding ruled
-    rule_refused rule.Free beyond = absurd (let z : ⊥ = omega (arith, beyond) in z)
+    rule_refused Free beyond = absurd (let z : ⊥ = omega (arith, beyond) in z)
     rule_refused (rule.Locked k) beyond = rw (none_above t lock_limit k small beyond)
-    rule_refused rule.Single beyond = absurd (let z : ⊥ = omega (arith, beyond) in z)
-    rule_refused rule.Never beyond = refl
+    rule_refused Single beyond = absurd (let z : ⊥ = omega (arith, beyond) in z)
+    rule_refused Never beyond = refl
 
     access_refused : (a : Access) → AccessBelow l.locks l.variables a → lock_limit ≤ lock_of (asked_by read_rules write_rules a) → access_effect (program_of s l) c d a t ≡ Err (refusal.Access d)
     access_refused none below beyond = absurd (let z : ⊥ = omega (arith, beyond) in z)

@@ -73,6 +73,29 @@ fn giving(k: u8, d: usize, locks: LockSet) -> Result<Effect, Refusal>
     Err(Refusal::NotTaken(d))
 }
 
+// The rule that an instruction's access is by.
+#[tactic(auto, unfolding(program::specs::View::access_of))]
+fn asked_by(i: Instruction, reads: &[Rule; VARIABLE_LIMIT], writes: &[Rule; VARIABLE_LIMIT]) -> Rule
+    requires { AccessBelow lock_limit variable_limit (access_of i) }
+    ensures { result ≡ asked_by reads.now writes.now (access_of i) }
+{
+    match i {
+        Instruction::Read(_, v) => reads[v as usize],
+        Instruction::Write(_, v) => writes[v as usize],
+        _ => Rule::Free,
+    }
+}
+
+// The lock that it names, or 0.
+fn lock_of(rule: Rule) -> u8
+    ensures { result ≡ lock_of rule }
+{
+    match rule {
+        Rule::Locked(k) => k,
+        _ => 0,
+    }
+}
+
 // What the instruction at file offset d does where these locks are held, by a code's rules for READs and for WRITEs. That the lock it asks for
 // is below the limit is a clause, and no test at each access of a walk: of a code's rules it is known.
 #[tactic(auto, unfolding(crate::specs::Internal::Effect::effect_of, crate::specs::Internal::Effect::form_effect, crate::specs::Internal::Effect::access_effect, program::specs::View::access_of, program::specs::View::form_of, program::specs::View::statement_of))]
@@ -99,28 +122,6 @@ pub(crate) fn effect_below(
         Instruction::Atomic(stated, _) => Ok(Effect::Opens(Part::Block(stated))),
         Instruction::End => Ok(Effect::Closes),
         _ => Ok(Effect::Nothing),
-    }
-}
-
-// The rule that an instruction's access is by.
-#[tactic(auto, unfolding(program::specs::View::access_of))]
-fn asked_by(i: Instruction, reads: &[Rule; VARIABLE_LIMIT], writes: &[Rule; VARIABLE_LIMIT]) -> Rule
-    requires { AccessBelow lock_limit variable_limit (access_of i) }
-    ensures { result ≡ asked_by reads.now writes.now (access_of i) }
-{
-    match i {
-        Instruction::Read(_, v) => reads[v as usize],
-        Instruction::Write(_, v) => writes[v as usize],
-        _ => Rule::Free,
-    }
-}
-
-fn lock_of(rule: Rule) -> u8
-    ensures { result ≡ lock_of rule }
-{
-    match rule {
-        Rule::Locked(k) => k,
-        _ => 0,
     }
 }
 
