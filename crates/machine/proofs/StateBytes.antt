@@ -5,14 +5,15 @@
 --                            the bytes of numbers, and of the first n of them
 --     length-thread, length-first_threads
 --                            ... of a thread with eight registers, and of the first n of them
+--     registers_first        the first n of eight threads have eight registers each
 --     write_state            variables, locks and threads one after the other are the state
-use Rattle.std.proofs.Common.{◌≡◌, ℕ, suc, ◌+◌, ◌*◌, ◌/◌, ◌%◌, ◌<◌, ◌≤◌, List, ◌++◌, length, get_or, take, refl, ap, ◌∙◌, zero-add, arith, length-append, length-take-le, get_or-take}
+use Rattle.std.proofs.Common.{◌≡◌, ℕ, suc, ◌+◌, ◌*◌, ◌/◌, ◌%◌, ◌<◌, ◌≤◌, List, ◌++◌, length, get_or, take, refl, ap, ◌∙◌, zero-add, arith, length-append, length-take-le, get_or-take, length-take}
 use mathlib.Core.List.{flat_map}
 use lib.Seq.{sets}
-use Rattle.program.specs.Limits.{register_count, thread_size}
+use Rattle.program.specs.Limits.{register_count, thread_limit, thread_size}
 use Rattle.program.proofs.Lists.{sets-append, flat_map-next, length-flat_map}
 use Rattle.machine.specs.State.{State, pair_bytes, word_bytes, thread_bytes, state_bytes}
-use Rattle.machine.specs.Internal.Kept.{nobody}
+use Rattle.machine.specs.Internal.Kept.{nobody, EightRegisters}
 use Rattle.machine.specs.declared.thread.Thread.{Thread}
 
 -- two bytes say no more of a number than this
@@ -43,6 +44,12 @@ length-first_threads xs n h r =
     length-flat_map thread_bytes thread_size (take n xs) nobody
     (λ i l. let k : i < n = omega (arith, e) in rw (get_or-take n xs i nobody k) (length-thread (get_or xs i nobody) (r i k)))
     ∙ rw e
+
+pub registers_first : (n : ℕ) (ths : List Thread) → n ≤ thread_limit → EightRegisters ths
+    → (t : ℕ) → t < length (take n ths) → length (get_or (take n ths) t nobody).registers ≡ register_count
+unfolding EightRegisters
+registers_first n ths few each t h =
+    let k : t < n = omega (arith, length-take n ths) in rw (get_or-take n ths t nobody k) (each t (omega arith))
 
 -- the three parts of the state, each written past the one before
 pub write_state : (out : List ℕ) (s : State) (n m : ℕ) → length (flat_map word_bytes s.variables) ≡ n → n + length s.locks ≡ m

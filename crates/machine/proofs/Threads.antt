@@ -1,22 +1,13 @@
--- Threads by two lists, their places and their registers, as a run kept them up to landing 11 (docs/LANDINGS.md names the laws). Nothing cites
--- them since a run keeps records. Assumes nothing.
---     thread_in, threads_in   a thread of two lists, and all of them
+-- Threads by two lists, their places and their registers, as the free `write_state` is lent them. A run kept them so up to landing 11
+-- (docs/LANDINGS.md names the laws), and nothing cites threads_set and threads_place since it keeps records. Assumes nothing.
 --     threads_at      a thread, by its number
+--     threads_next    one thread more, as a loop makes records of the lists
 --     threads_set     another one at a number
 --     threads_place   ... with the same registers
-use Rattle.std.proofs.Common.{◌≡◌, ℕ, zero, suc, ◌<◌, List, [], ◌∷◌, length, get_or, set, sym, refl, ap, ◌∙◌, arith}
-use Rattle.std.specs.Prelude.{slice_index, slice_index_or}
+use Rattle.std.proofs.Common.{◌≡◌, ℕ, zero, suc, ◌+◌, ◌<◌, List, [], ◌∷◌, length, get_or, take, set, sym, refl, ap, ◌∙◌, add-one, arith, take-suc, take-suc-set}
 use lib.Seq.{set-get_or}
-use Rattle.machine.specs.Internal.Kept.{nobody}
+use Rattle.machine.specs.Internal.Kept.{thread_in, threads_in, nobody}
 use Rattle.machine.specs.declared.thread.Thread.{Thread}
-
-abbrev pub thread_in : List ℕ → List (List ℕ) → ℕ → Thread
-thread_in places registers t = record { place = slice_index places t; registers = slice_index_or registers t [] }
-
-unfoldable pub threads_in : List ℕ → List (List ℕ) → List Thread
-threads_in [] registers = []
-threads_in (p ∷ places) [] = []
-threads_in (p ∷ places) (r ∷ registers) = record { place = p; registers = r } ∷ threads_in places registers
 
 pub threads_at : (places : List ℕ) (registers : List (List ℕ)) (t : ℕ) → t < length (threads_in places registers)
     → get_or (threads_in places registers) t nobody ≡ thread_in places registers t
@@ -25,6 +16,19 @@ threads_at [] rs t h = absurd (let z : ⊥ = omega arith in z)
 threads_at (p ∷ ps) [] t h = absurd (let z : ⊥ = omega arith in z)
 threads_at (p ∷ ps) (r ∷ rs) zero h = refl
 threads_at (p ∷ ps) (r ∷ rs) (suc t) h = threads_at ps rs t (omega arith)
+
+-- a turn of the loop that fills an array with them
+pub threads_next : (places : List ℕ) (registers : List (List ℕ)) (ths : List Thread) (t : ℕ) → t < length ths → t < length (threads_in places registers)
+    → take t ths ≡ take t (threads_in places registers)
+    → take (t + 1) (set ths t (thread_in places registers t)) ≡ take (t + 1) (threads_in places registers)
+threads_next places registers ths t h k e =
+    rw (
+      add-one,
+      take-suc-set ths t (thread_in places registers t) h,
+      take-suc (threads_in places registers) t nobody k,
+      threads_at places registers t k,
+      e,
+    )
 
 pub threads_set : (places : List ℕ) (registers : List (List ℕ)) (t place : ℕ) (row : List ℕ)
     → threads_in (set places t place) (set registers t row) ≡ set (threads_in places registers) t (record { place = place; registers = row })

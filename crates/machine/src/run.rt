@@ -47,7 +47,7 @@ impl<'a> Machine<'a> {
         Machine {
             file: *file,
             running: Running {
-                variables: initial_values(file),
+                variables: initial_values(file.bytes, file.layout),
                 locks: [0; LOCK_LIMIT],
                 threads: [fresh; THREAD_LIMIT],
             },

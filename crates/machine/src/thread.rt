@@ -35,3 +35,21 @@ pub fn move_thread(th: &mut Thread, m: Move, value: u32)
     }
     th.place = next;
 }
+
+// The same for who has no record to lend: a copy is lent, and handed back.
+pub fn moved_thread(th: Thread, m: Move, value: u32) -> Thread
+    requires { Doing m th × (th.place ≤ largest_place) }
+    ensures { MovedBy m value th result }
+{
+    let mut after = th;
+    move_thread(&mut after, m, value);
+    after
+}
+
+// The same, with the Move first: a thread after a Move, where a READ finds `value`.
+pub fn thread_after(m: Move, value: u32, th: Thread) -> Thread
+    requires { Doing m th × (th.place ≤ largest_place) }
+    ensures { MovedBy m value th result }
+{
+    moved_thread(th, m, value)
+}

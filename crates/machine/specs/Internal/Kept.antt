@@ -1,4 +1,6 @@
 -- The state as `run_list` keeps it: in arrays of the largest size, of which the first elements count.
+--     thread_in        a thread, of the places and the registers of all
+--     threads_in       all of them
 --     state_in         the state in arrays
 --     nobody           what is read where there is no thread
 --     move_thread      one thread moves
@@ -6,7 +8,7 @@
 --     EightRegisters-prop   ... in one way only: src/run.rt keeps it in a ghost field
 --     Kept             what holds between two entries
 --     Ended            every thread is at its code's end
-use Rattle.std.specs.Prelude.{◌≡◌, ℕ, ◌<◌, ◌≤◌, List, [], length, get_or, take, slice_index, slice_index_or, slice_set}
+use Rattle.std.specs.Prelude.{◌≡◌, ℕ, ◌<◌, ◌≤◌, List, [], ◌∷◌, length, get_or, take, slice_index, slice_index_or, slice_set}
 use Rattle.std.proofs.Props.{props}
 use Rattle.program.specs.View.{access_of}
 use Rattle.program.specs.Limits.{lock_limit, thread_limit, variable_limit, register_count}
@@ -15,6 +17,16 @@ use Rattle.program.specs.declared.instruction.Instruction.{Instruction}
 use Rattle.machine.specs.State.{State}
 use Rattle.machine.specs.Step.{value_read, thread_after}
 use Rattle.machine.specs.declared.thread.Thread.{Thread}
+
+-- a thread, of the places and the registers of all
+abbrev pub thread_in : List ℕ → List (List ℕ) → ℕ → Thread
+thread_in places registers t = record { place = slice_index places t; registers = slice_index_or registers t [] }
+
+-- all of them
+unfoldable pub threads_in : List ℕ → List (List ℕ) → List Thread
+threads_in [] registers = []
+threads_in (p ∷ places) [] = []
+threads_in (p ∷ places) (r ∷ registers) = record { place = p; registers = r } ∷ threads_in places registers
 
 -- the state in arrays
 abbrev pub state_in : Layout → (variables locks : List ℕ) → List Thread → State

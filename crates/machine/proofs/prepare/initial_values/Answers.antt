@@ -7,15 +7,15 @@ use Rattle.machine.proofs.prepare.initial_values.Goals as goal
 
 pub loop-i-preserved : goal.loop-i-preserved
 loop-i-preserved c =
-    let file = c.args.file.now in
+    let a = c.args in
     let o = c.loop-i in (
       simp length-set o.invariant.0,
-      rw c.initial_at.ensures (initial_next file.bytes.now file.layout o.variables o.i c.loop-i-test.true (omega arith) o.invariant.1),
+      rw c.initial_at.ensures (initial_next a.s.now a.l o.variables o.i c.loop-i-test.true (omega (arith, c.requires.variables)) o.invariant.1),
     )
 
 pub returns : goal.returns
 returns c =
-    let file = c.args.file.now in
-    let e : c.loop-i.i ≡ file.layout.variables = omega (arith, c.loop-i-test.false) in
+    let a = c.args in
+    let e : c.loop-i.i ≡ a.l.variables = omega (arith, c.loop-i-test.false) in
     (rw e at c.loop-i.invariant.1)
-    ∙ take_all file.layout.variables (start (program_of file.bytes.now file.layout)).variables (omega (arith, length-initial file.bytes.now file.layout))
+    ∙ take_all a.l.variables (start (program_of a.s.now a.l)).variables (omega (arith, length-initial a.s.now a.l))

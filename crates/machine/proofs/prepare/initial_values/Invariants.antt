@@ -6,5 +6,4 @@ use Rattle.machine.specs.State.{start}
 use Rattle.machine.proofs.prepare.initial_values.Given as goal
 
 abbrev pub invariant-loop-i : goal.invariant-loop-i
-invariant-loop-i l =
-    (length l.variables ≡ variable_limit) × (take l.i l.variables ≡ take l.i (start (program_of l.file.bytes.now l.file.layout)).variables)
+invariant-loop-i l = (length l.variables ≡ variable_limit) × (take l.i l.variables ≡ take l.i (start (program_of l.s l.fn.l)).variables)
