@@ -2,6 +2,7 @@
 #![tactic(auto)]
 
 pub mod line;
+pub mod placed;
 pub mod print;
 pub mod text;
 pub mod words;

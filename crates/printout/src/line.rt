@@ -16,9 +16,9 @@ use program::instruction::Instruction;
 use program::refusal::Refusal;
 use program::variable::Kind;
 
-// A field of the head: its `size` bytes at an offset, its name, its value.
+// A field of the head: its `size` bytes at an offset, its name, and a value of the caller's.
 #[tactic(auto, using(crate::proofs::Digits::short_digits))]
-pub fn head_line(
+pub fn field_line(
     file: &[u8],
     at: usize,
     size: usize,
@@ -34,6 +34,25 @@ pub fn head_line(
     line.name(name);
     line.number(value);
     line.write(out)
+}
+
+// A field of one byte: that byte, its name, its value.
+#[inline]
+pub fn head_line(file: &[u8], at: usize, name: &[u8], out: &mut [u8]) -> usize
+    requires { (at < length file.now) × (length name.now ≤ 9) × (line_size ≤ length out.old) }
+    ensures { WrittenLine (line_of (raw file.now at 1 ∷ name.now ∷ decimal (byte_at file.now at) ∷ [])) out.old out.new result }
+{
+    field_line(file, at, 1, name, usize::from(file[at]), out)
+}
+
+// The variable section's length field and the number of variables.
+#[tactic(auto, unfolding(crate::specs::Internal::Item::variables_line, crate::specs::Text::ascii))]
+#[inline]
+pub fn variables_line(file: &[u8], variables: usize, out: &mut [u8]) -> usize
+    requires { (records_start ≤ length file.now) × (variables < 10000) × (line_size ≤ length out.old) }
+    ensures { WrittenLine (variables_line file.now variables) out.old out.new result }
+{
+    field_line(file, 3, 2, b"variables", variables, out)
 }
 
 // Variable v, its record at an offset.

@@ -11,7 +11,9 @@ ghost use Rattle.printout.specs.Line.{lines, instruction_line, variable_line};
 ghost use Rattle.printout.specs.Internal.Writing.{WrittenLine};
 ghost use Rattle.printout.specs.Internal.Item.{head_lines, item_lines, ItemAt};
 
-use crate::line::{head_line, instruction_line, thread_line, variable_line, whole_line};
+use crate::line::{
+    head_line, instruction_line, thread_line, variable_line, variables_line, whole_line,
+};
 use program::instruction::instruction_at;
 use program::layout::Layout;
 use program::limits::{RECORDS_START, VARIABLE_SIZE};
@@ -63,10 +65,10 @@ impl<'a> Printout<'a> {
     {
         let bytes = self.file.bytes;
         match i {
-            0 => head_line(bytes, 0, 1, b"version", usize::from(bytes[0]), out),
-            1 => head_line(bytes, 1, 1, b"locks", usize::from(bytes[1]), out),
-            2 => head_line(bytes, 2, 1, b"threads", usize::from(bytes[2]), out),
-            _ => head_line(bytes, 3, 2, b"variables", self.file.layout.variables, out),
+            0 => head_line(bytes, 0, b"version", out),
+            1 => head_line(bytes, 1, b"locks", out),
+            2 => head_line(bytes, 2, b"threads", out),
+            _ => variables_line(bytes, self.file.layout.variables, out),
         }
     }
 

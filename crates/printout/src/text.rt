@@ -3,8 +3,9 @@ ghost use Rattle.std.specs.Prelude.{◌≡◌, [], ◌∷◌, ◌++◌, ◌+◌,
 ghost use Rattle.program.specs.Limits.{line_size};
 ghost use Rattle.printout.specs.Text.{hex_digit, decimal, line_of};
 ghost use Rattle.printout.specs.Line.{letter, raw};
-ghost use Rattle.printout.specs.Internal.Writing.{blanked, lettered, WrittenLine};
+ghost use Rattle.printout.specs.Internal.Writing.{blanked, lettered, Laid, WrittenLine};
 
+pub use crate::placed::{byte_at, copy_at, letter_at, lettered_at, number_at, raw_at, short_at};
 use arrayvec::ArrayVec;
 use program::limits::LINE_SIZE;
 
@@ -18,7 +19,7 @@ pub struct LineText {
 
 // A capital hexadecimal digit.
 #[tactic(auto, unfolding(crate::specs::Text::hex_digit))]
-fn hex_digit(d: u8) -> u8
+pub(crate) fn hex_digit(d: u8) -> u8
     requires { d < 16 }
     ensures { result ≡ hex_digit d }
 {
@@ -128,5 +129,15 @@ impl LineText {
         let n = self.bytes.len();
         out[..n].copy_from_slice(self.bytes.as_slice());
         n
+    }
+
+    // Writes its bytes so far, the last word's blank too, at a position of a lent buffer of any length; answers the position after them.
+    pub fn write_at(&self, out: &mut [u8], at: usize) -> usize
+        requires { at + length self.now.bytes.items ≤ length out.old }
+        ensures { Laid self.now.bytes.items at out.old out.new result }
+    {
+        let next = at + self.bytes.len();
+        out[at..next].copy_from_slice(self.bytes.as_slice());
+        next
     }
 }

@@ -6,6 +6,7 @@ ghost use Rattle.printout.specs.Line.{kind_words, instruction_words};
 ghost use Rattle.printout.specs.Internal.Field.{field_words, field_room};
 ghost use Rattle.printout.specs.Internal.Writing.{blanked};
 
+pub use crate::placed::{instruction_words, kind_words};
 use crate::text::LineText;
 use program::instruction::Instruction;
 use program::variable::Kind;

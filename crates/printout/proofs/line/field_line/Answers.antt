@@ -1,8 +1,8 @@
--- `head_line` meets its contract. Assumes nothing.
+-- `field_line` meets its contract. Assumes nothing.
 use Rattle.std.proofs.Common.{append_assoc}
 use Rattle.printout.specs.Text.{ascii}
 use Rattle.printout.specs.Internal.Writing.{blanked}
-use Rattle.printout.proofs.line.head_line.Goals as goal
+use Rattle.printout.proofs.line.field_line.Goals as goal
 
 pub returns : goal.returns
 unfolding blanked ascii
