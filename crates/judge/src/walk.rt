@@ -18,6 +18,7 @@ use program::instruction::instruction_at;
 use program::layout::Layout;
 use program::limits::{ENTRY_LIMIT, INSTRUCTION_SIZE, VARIABLE_LIMIT};
 use program::refusal::Refusal;
+use program::sections::ProgramFile;
 use program::stack::Stack;
 
 // The report's byte where there is no atomicity: of "ELSE, AGAIN and END".
@@ -176,6 +177,29 @@ pub fn walk_section(
     )
 }
 
+// A code of a file by its rules, its report written from `first` on.
+pub(crate) fn walk_by(
+    file: &ProgramFile,
+    number: usize,
+    reads: &[Rule; VARIABLE_LIMIT],
+    writes: &[Rule; VARIABLE_LIMIT],
+    first: usize,
+    report: &mut [u8],
+) -> Result<(), Refusal>
+    requires { (number < file.now.layout.threads) × RuleTables file.now.bytes.now file.now.layout number reads.now writes.now
+        × (first + get_or file.now.counts number 0 < report_limit) × (report_limit ≤ length report.old) }
+    ensures { let p = program_of file.now.bytes.now file.now.layout in
+        left_by result report.new ≡ scan_code p number first report.old (get_or p.codes number no_section) }
+{
+    let code = Code {
+        number,
+        start: file.offset_of(number, 0),
+        count: file.count(number),
+        first,
+    };
+    walk_section(file.bytes, file.layout, code, reads, writes, report)
+}
+
 // The code that the rules are for, its report written from `first` on.
 pub fn walk_code(rules: &AccessRules, first: usize, report: &mut [u8]) -> Result<(), Refusal>
     requires { (rules.now.code < rules.now.file.now.layout.threads) × (first + get_or rules.now.file.now.counts rules.now.code 0 < report_limit)
@@ -183,19 +207,12 @@ pub fn walk_code(rules: &AccessRules, first: usize, report: &mut [u8]) -> Result
     ensures { let p = program_of rules.now.file.now.bytes.now rules.now.file.now.layout in
         left_by result report.new ≡ scan_code p rules.now.code first report.old (get_or p.codes rules.now.code no_section) }
 {
-    let file = rules.file;
-    let code = Code {
-        number: rules.code,
-        start: file.offset_of(rules.code, 0),
-        count: file.count(rules.code),
-        first,
-    };
-    walk_section(
-        file.bytes,
-        file.layout,
-        code,
+    walk_by(
+        rules.file,
+        rules.code,
         &rules.reads,
         &rules.writes,
+        first,
         report,
     )
 }

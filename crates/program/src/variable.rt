@@ -44,12 +44,19 @@ pub fn record_at(s: &[u8], at: usize, locks: usize, threads: usize) -> Option<Ki
     record_of(locks, threads, s[at], s[at + 1])
 }
 
-// The kind that it says.
+// The kind that it says. By cases of its own and not by record_of, whose Option made judging fill a code's rules half as fast.
+#[tactic(auto, unfolding(crate::specs::Variable::record_at, crate::specs::Variable::recorded))]
 pub fn kind_at(s: &[u8], at: usize, locks: usize, threads: usize) -> Kind
     requires { at + variable_size ≤ length s.now }
     ensures { result ≡ kind_of (record_at locks threads s.now at) }
 {
-    record_at(s, at, locks, threads).unwrap_or(Kind::Open)
+    let g = s[at + 1];
+    match s[at] {
+        0 if usize::from(g) < locks => Kind::Guarded(g),
+        1 if usize::from(g) < threads => Kind::Own(g),
+        2 if g == 0 => Kind::Fixed,
+        _ => Kind::Open,
+    }
 }
 
 // Its initial value.

@@ -7,18 +7,19 @@ use Rattle.judge.proofs.judging.walk_codes.Goals as goal
 pub loop-code-init : goal.loop-code-init
 loop-code-init c = walking_start _ _ _ _ c.args.file.now.located _
 
-pub walk_code-requires : goal.walk_code-requires
-walk_code-requires c = (
-  rw (c.of-rules.ensures.0, c.of-rules.ensures.1) c.loop-code-test.true,
-  rw (c.of-rules.ensures.0, c.of-rules.ensures.1) (report_inside_limit _ _ _ _ c.args.file.now.located _ _ _ _ c.loop-code.invariant c.loop-code-test.true),
+pub walk_by-requires : goal.walk_by-requires
+walk_by-requires c = (
+  c.loop-code-test.true,
+  c.fill_rules.ensures,
+  (report_inside_limit _ _ _ _ c.args.file.now.located _ _ _ _ c.loop-code.invariant c.loop-code-test.true),
   omega (arith, c.requires.0, c.loop-code.invariant.report_length),
 )
 
-pub returns-in_err-walk_code : goal.returns-in_err-walk_code
-returns-in_err-walk_code c =
+pub returns-in_err-walk_by : goal.returns-in_err-walk_by
+returns-in_err-walk_by c =
     let p = err_from_is_err_and c.from_residual.result c.from_residual.ensures.1 in
     rw (p.1, p.2)
-    (refused_code _ _ _ _ c.args.file.now.located _ _ _ _ c.loop-code.invariant c.loop-code-test.true _ (rw (c.of-rules.ensures.0, c.of-rules.ensures.1) at c.in_err-walk_code.ensures))
+    (refused_code _ _ _ _ c.args.file.now.located _ _ _ _ c.loop-code.invariant c.loop-code-test.true _ (c.in_err-walk_by.ensures))
 
 pub overflow_add-first-in-loop-code : goal.overflow_add-first-in-loop-code
 overflow_add-first-in-loop-code c =
@@ -27,8 +28,8 @@ overflow_add-first-in-loop-code c =
 pub loop-code-preserved : goal.loop-code-preserved
 loop-code-preserved c =
     rw c.count.ensures
-    (walking_next _ _ _ _ c.args.file.now.located _ _ _ _ c.loop-code.invariant c.loop-code-test.true _ c.walk_code.auto.report
-    (rw (c.of-rules.ensures.0, c.of-rules.ensures.1) at c.in_ok-walk_code.ensures))
+    (walking_next _ _ _ _ c.args.file.now.located _ _ _ _ c.loop-code.invariant c.loop-code-test.true _ c.walk_by.auto.report
+    (c.in_ok-walk_by.ensures))
 
 pub returns : goal.returns
 returns c = walking_end _ _ _ _ c.args.file.now.located _ _ _ _ c.loop-code.invariant c.loop-code-test.false
