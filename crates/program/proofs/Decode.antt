@@ -26,8 +26,6 @@
 --     rows_numbered        ... for a table of rows of the enum
 --     rows_in_order        the row of each number, for a table of them
 --     numbered_below       a row of the enum has the number that it was found by
---     form_numbered, form_by_number
---                          the form of a row by its number, and by the number that it was found by
 use Prim.Native.Nat.{ℕ, zero, suc, ◌+◌, ◌-◌, ◌*◌, ◌<◌, ◌≤◌}
 use mathlib.Core.Path.{◌≡◌, refl, sym, ap, ◌∙◌, subst}
 use mathlib.Core.Logic.{◌≢◌}
@@ -38,7 +36,7 @@ use native.Mathlib.Decide.{ℕ_discrete}
 use native.Mathlib.Omega.{arith}
 use lib.Dec.{ltb, leb, eqb}
 use lib.ListN.{length, get_or, get_or-map}
-use borrow.Author.Tests.{ltb-true, ltb-false, leb-true, lt-ltb, le-ltb, ne_eqb}
+use borrow.Author.Tests.{ltb-true, leb-true, lt-ltb, le-ltb, ne_eqb}
 use Rattle.std.specs.List.{range_with_len}
 use Rattle.std.proofs.lemmas.Bool.{not-false, not-true}
 use Rattle.std.proofs.lemmas.List.FromFn.{get_or-range_with_len}
@@ -48,7 +46,6 @@ use Rattle.program.specs.Field.{byte_at}
 use Rattle.program.specs.Instruction.{Decoded, Valid, Invalid, FieldKind, register, variable, lock, zero as zero_field, part, statement, is_right, is_right_row, TableRow, table, look_up, decode, decode_at, decoded_instruction, is_valid}
 use Rattle.program.specs.Limits.{register_count}
 use Rattle.program.specs.Internal.Rows.{position, row_of, rows_from, row_table, number_of, no_row, row_in, instruction_in, is_plain, at_distance, row_form, is_nesting, row_count, limit_of, row_limits, no_limits, limits_of, fits}
-use Rattle.program.specs.Internal.Change.{numbered_form}
 use Rattle.program.specs.Internal.Seen.{AreRegisters, RegistersGood, registers_of, seen}
 use Rattle.program.specs.Internal.Sound.{AccessBelow}
 use Rattle.program.specs.View as form
@@ -464,41 +461,6 @@ pub rows_in_order : (n count : ℕ) → n < count → (rows : List Row) → map 
 rows_in_order n count h rows e =
     sym (get_or-map number_of rows n row.Unknown) ∙ ap (λ (ns : List ℕ). get_or ns n 0) e ∙ get_or-range_with_len 0 count n 0 h ∙ zero-add n
 
--- ---- rows of the enum by their numbers
-
--- a number that there is
+-- the row that is found by a number that there is has it
 pub numbered_below : (n : ℕ) (r : Row) → number_of r ≡ choose (ltb n row_count) n 0 → n < row_count → number_of r ≡ n
 numbered_below n r e h = rw (lt-ltb n row_count h) at e
-
-form_numbered : (r : Row) (a n : ℕ) → row_form r a n ≡ numbered_form (number_of r) a n
-unfolding form_of
-form_numbered row.Unknown a n = refl
-form_numbered row.Set a n = refl
-form_numbered row.Copy a n = refl
-form_numbered row.Add a n = refl
-form_numbered row.Sub a n = refl
-form_numbered row.Less a n = refl
-form_numbered row.Read a n = refl
-form_numbered row.Write a n = refl
-form_numbered row.Take a n = refl
-form_numbered row.Give a n = refl
-form_numbered row.If a n = refl
-form_numbered row.Else a n = refl
-form_numbered row.While a n = refl
-form_numbered row.Again a n = refl
-form_numbered row.Atomic a n = refl
-form_numbered row.End a n = refl
-form_numbered row.Mulh a n = refl
-form_numbered row.Lesss a n = refl
-
--- a number that no row has stands for no op code, and is taken for END's as that is
-numbered_end : (m a n : ℕ) → row_count ≤ m → numbered_form 0 a n ≡ numbered_form m a n
-numbered_end m a n h =
-    rw (ne_eqb m 10 (omega arith), ne_eqb m 11 (omega arith), ne_eqb m 12 (omega arith), ne_eqb m 13 (omega arith), ne_eqb m 14 (omega arith)) refl
-
-pub form_by_number : (m : ℕ) (r : Row) → number_of r ≡ choose (ltb m row_count) m 0 → (a n : ℕ) → row_form r a n ≡ numbered_form m a n
-form_by_number m r e a n = form_numbered r a n ∙ cases (ltb m row_count) refl
-  where
-    cases : (below : Bool) → ltb m row_count ≡ below → numbered_form (number_of r) a n ≡ numbered_form m a n
-    cases true is = ap (λ (k : ℕ). numbered_form k a n) (rw is at e)
-    cases false is = ap (λ (k : ℕ). numbered_form k a n) (rw is at e) ∙ numbered_end m a n (ltb-false m row_count is)

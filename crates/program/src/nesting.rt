@@ -128,47 +128,41 @@ fn at_end(here: bool, top: Option<Entry>) -> Option<Change>
     }
 }
 
-// What the opener or closer of a row does; none: nesting is broken there.
+// What the opener or closer of a row with distance n does at place p, where `here` says whether the innermost entry names it; none: nesting
+// is broken there.
 #[tactic(auto, unfolding(crate::specs::Nesting::nest, crate::specs::View::form_of))]
-fn change_of(
-    p: usize,
-    here: bool,
-    row: Row,
-    n: usize,
-    top: Option<Entry>,
-    room: bool,
-) -> Option<Change>
-    requires { (p < 2 ^ 62) × (n < 65536) }
-    ensures { (a end : ℕ) (es : List Entry) → p < end → here ≡ eqb (innermost_place end es) p → top ≡ slice_get es 0
-        → room ≡ ltb (length es) entry_limit → Fulfils result es (nest p (row_form row a n) es) }
-{
-    match row {
-        Row::If => at_opener(p, here, n, Entry::Then(p + n), room),
-        Row::Else => at_else(p, here, n, top),
-        Row::While => at_opener(p, here, n, Entry::Loop(p + n, n), room),
-        Row::Again => at_again(here, n, top),
-        Row::Atomic => at_opener(p, here, n, Entry::Block(p + n), room),
-        _ => at_end(here, top),
-    }
-}
-
-// What it does where these entries are open.
 pub fn change_at(p: usize, here: bool, row: Row, n: usize, entries: &Stack<Entry>) -> Option<Change>
     requires { (p < 2 ^ 62) × (n < 65536) }
     ensures { (a end : ℕ) → p < end → here ≡ eqb (innermost_place end entries.now) p
         → Fulfils result entries.now (nest p (row_form row a n) entries.now) }
 {
-    change_of(p, here, row, n, entries.top(), entries.has_room())
+    match row {
+        Row::If => at_opener(p, here, n, Entry::Then(p + n), entries.has_room()),
+        Row::Else => at_else(p, here, n, entries.top()),
+        Row::While => at_opener(p, here, n, Entry::Loop(p + n, n), entries.has_room()),
+        Row::Again => at_again(here, n, entries.top()),
+        Row::Atomic => at_opener(p, here, n, Entry::Block(p + n), entries.has_room()),
+        _ => at_end(here, entries.top()),
+    }
 }
 
 // What that of the row with a number does, where e is the innermost open entry, if there is one, `place` what it names, and `depth` how many
-// are open.
+// are open. (There are two, since change_at asks the stack for no more than a row needs: taking the innermost entry before the match, reading
+// openers and closers took a tenth more instructions.)
 pub fn turn_at(p: usize, row: u8, n: usize, place: usize, e: Entry, depth: usize) -> Option<Change>
     requires { (p < 2 ^ 62) × (n < 65536) }
     ensures { (a : ℕ) (es : List Entry) → Innermost p (eqb place p) e es → length es ≡ depth
         → Fulfils result es (nest p (numbered_form row a n) es) }
 {
+    let here = place == p;
     let top = (depth != 0).then_some(e);
-    let row = Row::numbered(row);
-    change_of(p, place == p, row, n, top, depth < ENTRY_LIMIT)
+    let room = depth < ENTRY_LIMIT;
+    match row {
+        10 => at_opener(p, here, n, Entry::Then(p + n), room),
+        11 => at_else(p, here, n, top),
+        12 => at_opener(p, here, n, Entry::Loop(p + n, n), room),
+        13 => at_again(here, n, top),
+        14 => at_opener(p, here, n, Entry::Block(p + n), room),
+        _ => at_end(here, top),
+    }
 }

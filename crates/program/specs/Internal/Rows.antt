@@ -119,7 +119,7 @@ limit_of locks variables statement = statement_limit
 abbrev pub row_limits : (locks variables : ℕ) → TableRow → FieldLimits
 row_limits locks variables r = record { 0 = limit_of locks variables r.a; 1 = limit_of locks variables r.b; 2 = limit_of locks variables r.c }
 
--- those of `Unknown`
+-- those of `Unknown`: no field lies below them
 abbrev pub no_limits : FieldLimits
 no_limits = record { 0 = 0; 1 = 0; 2 = 0 }
 
