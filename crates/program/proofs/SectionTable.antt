@@ -3,12 +3,15 @@
 --     walked_start, walked_next   at the first code, and one code on
 --     section_sound               the section there is sound
 --     section_located             the code lies there
+--     walked_end                  past the last code no instruction is left
 --     located_next                one code more is located
 --     bytes_set, bytes_next       the report bytes before a code, where a later count is stored
 --     bytes_one_more, bytes_grow  ... before the code after it; a later code has at least as many before it
 --     bytes_inside                ... with a code's own it has no more than those before a later one
 --     Filling                     what holds at the loop's head
 --     filling_start, filling_next ... where the loop begins, and after a code
+--     filling_section             the section of the code that is filled in is sound
+--     filling_end                 ... where the loop ends it is the table of sections
 --     report_inside               a code's report lies in the report
 use Prim.Native.Nat.{ℕ, zero, suc, ◌+◌, ◌*◌, ◌-◌, ◌≤◌, ◌<◌}
 use mathlib.Core.Path.{◌≡◌, refl, sym, ap, ◌∙◌, subst}
@@ -86,6 +89,12 @@ module _ (s : List ℕ) (l : Layout) (c at : ℕ) (h : c < l.threads) (x : Walke
         nested = section_sound.nested;
       }
 
+-- none is left
+pub walked_end : (s : List ℕ) (l : Layout) (c at : ℕ) → l.threads ≤ c → (x : Walked s l c at) → x.instructions ≡ 0
+walked_end s l c at h x =
+    let none : l.threads - c ≡ 0 = omega arith in
+    (subst (λ (n : ℕ). SoundSections s l.locks l.variables n at x.instructions) none x.sound).1
+
 -- one code more is located
 pub located_next : (s : List ℕ) (l : Layout) (starts counts : List ℕ) (c a n : ℕ) → c < length starts → c < length counts
     → ((u : ℕ) → u < c → Located s l (get_or starts u 0) (get_or counts u 0) u) → Located s l a n c
@@ -146,6 +155,9 @@ filling_start s l starts counts f p q = record {
 
 module _ (s : List ℕ) (l : Layout) (starts counts : List ℕ) (at c : ℕ) (f : SoundFile s l) (x : Filling s l starts counts at c) where
   module _ (h : c < l.threads) where
+    pub filling_section : SoundSection s l.locks l.variables at
+    filling_section = section_sound s l c at h x.walked
+
     pub filling_next : Filling s l (set starts c (at + 2)) (set counts c (count_at s at)) (at + 2 + 4 * count_at s at) (c + 1)
     filling_next =
         let n = count_at s at in
@@ -159,6 +171,17 @@ module _ (s : List ℕ) (l : Layout) (starts counts : List ℕ) (at c : ℕ) (f 
           located = located_next s l starts counts c (at + 2) n p q x.located (section_located s l c at h x.walked);
           counted = omega (arith, x.counted, bytes_next counts c n q, instructions_left s l c at h x.walked);
         }
+
+  pub filling_end : l.threads ≤ c → SectionTable s l starts counts
+  filling_end h =
+      let all : c ≡ l.threads = omega (arith, x.few) in
+      record {
+        sound = f;
+        starts_length = x.starts_length;
+        counts_length = x.counts_length;
+        located = λ u b. x.located u (omega arith);
+        total = rw (← all) (omega (arith, x.counted, walked_end s l c at h x.walked));
+      }
 
 -- a code's report lies in the report
 module _ {s : List ℕ} {l : Layout} {starts counts : List ℕ} (x : SectionTable s l starts counts) where
