@@ -56,13 +56,13 @@ pub said_some : (s w l : List ℕ) → l ≡ s ++ blanked (w ∷ []) → 0 < len
 said_some s w l e = omega (arith, ap length e, length-append s (blanked (w ∷ [])), blanked_one w)
 
 -- a word with its blank, and the blank stored over
-pub end_replaced : {w k l : List ℕ} {at p : ℕ} (e : ℕ) → Laid (blanked (w ∷ [])) at k l p → LaidWord w e at k (set l (at + length w) e) p
+pub end_replaced : {w k l : List ℕ} {at p : ℕ} (e q : ℕ) → q ≡ at + length w → Laid (blanked (w ∷ [])) at k l p → LaidWord w e at k (set l q e) p
 unfolding blanked ended
-end_replaced {w} {k} {l} {at} {p} e f =
+end_replaced {w} {k} {l} {at} {p} e q last f =
     let before : l ≡ set (sets k at w) (at + length w) 32 = f.stored ∙ ap (sets k at) (append-nil (w ++ 32 ∷ [])) ∙ sets-append k at w (32 ∷ []) in
     record {
       laid = record {
-        stored = ap (λ (z : List ℕ). set z (at + length w) e) before ∙ set-set (sets k at w) (at + length w) 32 e ∙ sym (sets-append k at w (e ∷ []));
+        stored = ap (λ (n : ℕ). set l n e) last ∙ ap (λ (z : List ℕ). set z (at + length w) e) before ∙ set-set (sets k at w) (at + length w) 32 e ∙ sym (sets-append k at w (e ∷ []));
         ends = omega (arith, f.ends, blanked_one w, length-append w (e ∷ []));
       };
     }
