@@ -17,7 +17,7 @@ pub laid_none : (at : ℕ) (l : List ℕ) → Laid [] at l l at
 laid_none at l = record { stored = refl; ends = sym (add-zero at) }
 
 -- one byte stored
-laid_byte : (b at : ℕ) (l : List ℕ) → Laid (b ∷ []) at l (set l at b) (at + 1)
+pub laid_byte : (b at : ℕ) (l : List ℕ) → Laid (b ∷ []) at l (set l at b) (at + 1)
 laid_byte b at l = record { stored = refl; ends = refl }
 
 -- a part of the buffer that is copied over
@@ -32,7 +32,7 @@ pub laid_same : {x y k l : List ℕ} {at p q : ℕ} → Laid x at k l p → x �
 laid_same {k = k} {l} {at} {p} {q} f e h = rw (← e, ← h) f
 
 -- what is stored one after the other
-laid_then : {x y k l m : List ℕ} {at p q : ℕ} → Laid x at k l p → Laid y p l m q → Laid (x ++ y) at k m q
+pub laid_then : {x y k l m : List ℕ} {at p q : ℕ} → Laid x at k l p → Laid y p l m q → Laid (x ++ y) at k m q
 laid_then {x} {y} {k} {l} {m} {at} {p} {q} f g = record {
   stored = g.stored ∙ ap (λ (z : List ℕ). sets z p y) f.stored ∙ ap (λ (n : ℕ). sets (sets k at x) n y) f.ends ∙ sym (sets-append k at x y);
   ends = omega (arith, f.ends, g.ends, length-append x y);
