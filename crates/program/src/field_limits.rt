@@ -2,7 +2,7 @@
 // field wrong").
 ghost use Rattle.std.specs.Prelude.{◌≡◌, ℕ, ◌+◌, ◌≤◌, ◌<◌, get_or, length};
 ghost use Rattle.program.specs.Instruction.{decode, decode_at, is_valid};
-ghost use Rattle.program.specs.Limits.{instruction_size};
+ghost use Rattle.program.specs.Limits.{instruction_size, lock_limit, variable_limit};
 ghost use Rattle.program.specs.Internal.Rows.{limits_of, no_limits, number_of, row_of};
 
 use crate::instruction::{ROW_COUNT, Row};
@@ -88,5 +88,24 @@ impl Limits {
         ensures { result ≡ is_valid (decode_at self.now.locks self.now.variables s.now at) }
     {
         self.allows(Row::of(s[at]), s[at + 1], s[at + 2], s[at + 3])
+    }
+}
+
+// The limits of counts that a file can have: what reading makes. Whoever is lent a FileLimits has both bounds by its type, and need not show
+// them to call `walk`.
+#[derive(Clone, Copy)]
+pub struct FileLimits {
+    pub limits: Limits,
+    pub ghost few_locks: { limits.locks ≤ lock_limit },
+    pub ghost few_variables: { limits.variables ≤ variable_limit },
+}
+
+impl FileLimits {
+    pub fn new(locks: usize, variables: usize) -> FileLimits
+        requires { (locks ≤ lock_limit) × (variables ≤ variable_limit) }
+        ensures { (result.limits.locks ≡ locks) × (result.limits.variables ≡ variables) }
+    {
+        let limits = Limits::new(locks, variables);
+        FileLimits { limits }
     }
 }

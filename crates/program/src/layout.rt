@@ -8,7 +8,7 @@ ghost use Rattle.program.specs.Limits.{thread_limit, instruction_size, variable_
 ghost use Rattle.program.specs.Internal.Marks.{codes_in, marked_all, marked_codes};
 
 use crate::cursor::{Cursor, byte_at, byte_field, pair_at, section};
-use crate::field_limits::Limits;
+use crate::field_limits::{FileLimits, Limits};
 use crate::limits::{
     CODE_SECTION_LIMIT, INSTRUCTION_SIZE, LOCK_LIMIT, THREAD_LIMIT, VARIABLE_LIMIT,
     VARIABLE_SECTION_LIMIT, VARIABLE_SIZE,
@@ -114,8 +114,8 @@ fn fields(s: &[u8], writers: &mut [u8; VARIABLE_LIMIT]) -> Result<(usize, Cursor
         return Err(Refusal::Count(2));
     }
     let (variables, c) = variable_section(s, c, locks, threads)?;
-    let limits = Limits::new(locks, variables);
-    let (instructions, c) = code_sections(&limits, s, c, threads, &mut *writers)?;
+    let limits = FileLimits::new(locks, variables);
+    let (instructions, c) = code_sections(&limits.limits, s, c, threads, &mut *writers)?;
     if c.at != s.len() {
         return Err(Refusal::LeftOver(c.at));
     }
