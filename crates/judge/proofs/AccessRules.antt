@@ -1,10 +1,14 @@
 -- What a variable asks of a code says what the lock discipline says. Assumes nothing.
 --     kind_good        the lock of a guarded variable is below the lock limit
 --     kind_says        an access by the rule of a kind
+--     kind_lock        the lock of such a rule is below the limit
 --     RulesFilled      what holds at the head of the loop that fills the tables; from its start, over one variable, to its end
+--     locks_start      the locks of tables of the rule Free are below the limit
+--     read_locks_next, write_locks_next
+--                      ... and stay so over one variable
 --     asked_lock       so is the lock that an access asks for by rules that say what the lock discipline says
 --     beyond_refused   an access that asks for another is refused
-use Rattle.std.proofs.Common.{ℕ, ◌+◌, ◌≤◌, ◌<◌, ◌≡◌, refl, sym, ◌∙◌, subst, Bool, true, false, not, List, arith, ltb, eqb, length, get_or, set, length-set, get_or-set_same, get_or-set_other, ltb-true, ◌^◌, Ok, Err, Option, Some, None}
+use Rattle.std.proofs.Common.{ℕ, ◌+◌, ◌≤◌, ◌<◌, ◌≡◌, refl, sym, ◌∙◌, subst, Bool, true, false, not, List, arith, ltb, eqb, length, get_or, set, replicate, length-set, get_or-set_same, get_or-set_other, ltb-true, ◌^◌, Ok, Err, Option, Some, None}
 use native.Mathlib.Decide.{ℕ_discrete}
 use Rattle.atomicity.specs.declared.Atomicity.TheVariants as atomicity
 use Rattle.program.specs.View.{Access, none, reads, writes, takes, gives, View, own, shares, nests, states, view_of, access_in, access_of, form_in, form_of, statement_in, statement_of}
@@ -21,10 +25,11 @@ use Rattle.program.specs.declared.refusal.Refusal.TheVariants as refusal
 use Rattle.program.specs.declared.variable.Kind.{Kind}
 use Rattle.program.specs.declared.variable.Kind.TheVariants.{Guarded, Own, Fixed, Open}
 use Rattle.program.proofs.Differ.{differ}
+use Rattle.program.proofs.Lists.{get_or-replicate_same}
 use Rattle.judge.specs.Discipline.{kind_at, permits, may_race, kind_atomicity, access_atomicity}
 use Rattle.judge.specs.LockSet.{empty, with_lock}
 use Rattle.judge.specs.Internal.Effect.{passing, access_effect, form_effect, effect_of}
-use Rattle.judge.specs.Internal.Rule.{rule_of, lock_of, asked_by, ruled, RuleTables}
+use Rattle.judge.specs.Internal.Rule.{rule_of, lock_of, LocksBelow, asked_by, ruled, RuleTables}
 use Rattle.judge.specs.declared.access_rule.Rule.{Rule}
 use Rattle.judge.specs.declared.access_rule.Rule.TheVariants as rule
 use Rattle.judge.specs.declared.access_rule.Rule.TheVariants.{Free, Single, Never}
@@ -88,6 +93,18 @@ module _ (d c : ℕ) (s : LockSet) (is_write races : Bool) where
   kind_says Fixed = free_says (not is_write)
   kind_says Open = open_says races
 
+-- the lock of a kind's rule is below the limit
+module _ (c : ℕ) (is_write races : Bool) where
+  choice_lock : (b : Bool) (x y : Rule) → lock_of x ≡ 0 → lock_of y ≡ 0 → lock_of (choose b x y) < lock_limit
+  choice_lock true x y h k = omega (arith, h)
+  choice_lock false x y h k = omega (arith, k)
+
+  kind_lock : (k : Kind) → LockGood k → lock_of (rule_of k c is_write races) < lock_limit
+  kind_lock (Guarded g) h = h
+  kind_lock (Own g) h = choice_lock (eqb g c) Free Never refl refl
+  kind_lock Fixed h = choice_lock (not is_write) Free Never refl refl
+  kind_lock Open h = choice_lock races Single Free refl refl
+
 module _ (s : List ℕ) (l : Layout) (c v : ℕ) (h : v < l.variables) where
   -- whether an access of variable v may race, should it be open
   abbrev races_there : (is_write : Bool) → Bool
@@ -104,9 +121,12 @@ module _ (s : List ℕ) (l : Layout) (c v : ℕ) (h : v < l.variables) where
   abbrev write_there : Rule
   write_there = rule_of kind_there c true (races_there true)
 
-  kind_good : l.locks ≤ lock_limit → LockGood (kind_at (program_of s l) v)
+  good_there : l.locks ≤ lock_limit → LockGood kind_there
   unfolding record_at
-  kind_good few = subst LockGood (sym (kind_in s l v h)) (recorded_lock l.locks l.threads _ _ few).locked
+  good_there few = (recorded_lock l.locks l.threads _ _ few).locked
+
+  kind_good : l.locks ≤ lock_limit → LockGood (kind_at (program_of s l) v)
+  kind_good few = subst LockGood (sym (kind_in s l v h)) (good_there few)
 
   read_says : (d : ℕ) (t : LockSet) → access_effect (program_of s l) c d (reads v) t ≡ ruled read_there d t
   unfolding access_effect access_atomicity
@@ -157,6 +177,26 @@ module _ (s : List ℕ) (l : Layout) (f : SoundFile s l) (c : ℕ) (read_rules w
     reading = λ u h. x.reading u (omega (arith, h));
     writing = λ u a h. x.writing u a (omega (arith, h));
   }
+
+-- ---- the locks of a table's rules
+
+-- of a table of the rule Free
+pub locks_start : LocksBelow (replicate variable_limit Free)
+locks_start u = rw (get_or-replicate_same variable_limit u Free) (omega arith)
+
+-- where a variable's rule is stored in one
+locks_set : (rules : List Rule) (v : ℕ) (r : Rule) → v < length rules → lock_of r < lock_limit → LocksBelow rules → LocksBelow (set rules v r)
+locks_set rules v r inside small below u = elim (ℕ_discrete u v) [
+  | yes e ↦ rw (e, get_or-set_same rules v r Free inside) small
+  | no n ↦ rw (get_or-set_other rules v u r Free n) (below u)
+]
+
+module _ (s : List ℕ) (l : Layout) (f : SoundFile s l) (c : ℕ) (rules : List Rule) (v : ℕ) (size : length rules ≡ variable_limit) (h : v < l.variables) where
+  pub read_locks_next : LocksBelow rules → LocksBelow (set rules v (read_there s l c v h))
+  read_locks_next = locks_set rules v _ (omega (arith, size, f.variables)) (kind_lock c false _ _ (good_there s l c v h f.locks))
+
+  pub write_locks_next : LocksBelow rules → LocksBelow (set rules v (write_there s l c v h))
+  write_locks_next = locks_set rules v _ (omega (arith, size, f.variables)) (kind_lock c true _ _ (good_there s l c v h f.locks))
 
 -- ---- the lock that an access asks for
 

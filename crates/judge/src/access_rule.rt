@@ -7,7 +7,7 @@ ghost use Rattle.program.specs.Layout.{program_of};
 ghost use Rattle.program.specs.Internal.Bounds.{code_limit};
 ghost use Rattle.program.specs.Internal.Marks.{besides, writer_table};
 ghost use Rattle.program.specs.Internal.Sound.{SoundFile};
-ghost use Rattle.judge.specs.Internal.Rule.{rule_of, RuleTables};
+ghost use Rattle.judge.specs.Internal.Rule.{rule_of, LocksBelow, RuleTables};
 ghost use Rattle.judge.specs.declared.access_rule.Rule.TheVariants.{Free, Never};
 
 use program::layout::Layout;
@@ -58,7 +58,7 @@ impl Rule {
     }
 }
 
-// The rules of all variables for one code, by the writers of each.
+// The rules of all variables for one code, by the writers of each. A table whose locks are below 16 stays so.
 pub fn fill_rules(
     bytes: &[u8],
     layout: Layout,
@@ -68,7 +68,9 @@ pub fn fill_rules(
     writes: &mut [Rule; VARIABLE_LIMIT],
 )
     requires { SoundFile bytes.now layout × (code < code_limit) × (writers.now ≡ writer_table (program_of bytes.now layout)) }
-    ensures { RuleTables bytes.now layout code reads.new writes.new }
+    ensures lawful { RuleTables bytes.now layout code reads.new writes.new }
+    ensures read_locks { LocksBelow reads.old → LocksBelow reads.new }
+    ensures write_locks { LocksBelow writes.old → LocksBelow writes.new }
 {
     for v in 0..layout.variables {
         let kind = kind_at(
@@ -96,14 +98,16 @@ pub struct AccessRules<'a> {
 }
 
 impl<'a> AccessRules<'a> {
-    // By the writers of each variable.
+    // By the writers of each variable. Each rule's lock is below 16, also past the file's last variable.
     pub fn of(
         file: &'a ProgramFile<'a>,
         code: usize,
         writers: &[u8; VARIABLE_LIMIT],
     ) -> AccessRules<'a>
         requires { (code < code_limit) × (writers.now ≡ writer_table (program_of file.now.bytes.now file.now.layout)) }
-        ensures { (result.file.now ≡ file.now) × (result.code ≡ code) }
+        ensures of_code { (result.file.now ≡ file.now) × (result.code ≡ code) }
+        ensures read_locks { LocksBelow result.reads }
+        ensures write_locks { LocksBelow result.writes }
     {
         let mut reads = [Rule::Free; VARIABLE_LIMIT];
         let mut writes = [Rule::Free; VARIABLE_LIMIT];

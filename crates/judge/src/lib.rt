@@ -6,4 +6,6 @@ pub mod effect;
 pub mod frame;
 pub mod judging;
 pub mod lock_set;
+#[cfg(test)]
+mod tests;
 pub mod walk;

@@ -1,6 +1,7 @@
 -- What a variable asks of a code that reads or writes it (src/access_rule.rt).
 --     rule_of      the rule for a variable of a kind
 --     lock_of      the lock that a rule names
+--     LocksBelow   the lock of each rule of a table is below the limit
 --     asked_by     the rule that an access is by
 --     ruled        what an access by such a rule comes to
 --     RuleTables   the rules of all variables for one code say what the lock discipline says
@@ -9,7 +10,7 @@ use Rattle.program.specs.View.{Access, none, reads, writes, takes, gives}
 use Rattle.program.specs.Answer.{Answer, require}
 use Rattle.program.specs.Choice.{choose}
 use Rattle.program.specs.Layout.{program_of}
-use Rattle.program.specs.Limits.{variable_limit}
+use Rattle.program.specs.Limits.{lock_limit, variable_limit}
 use Rattle.program.specs.declared.layout.Layout.{Layout}
 use Rattle.program.specs.declared.refusal.Refusal.TheVariants as refusal
 use Rattle.program.specs.declared.variable.Kind.{Kind}
@@ -35,6 +36,10 @@ lock_of Free = 0
 lock_of (Locked k) = k
 lock_of Single = 0
 lock_of Never = 0
+
+-- the lock of each rule is below the limit, so that it has a bit in a lock set
+abbrev pub LocksBelow : List Rule → Type 0
+LocksBelow rules = (v : ℕ) → lock_of (get_or rules v Free) < lock_limit
 
 -- of an access that no rule is for, Free
 abbrev pub asked_by : (read_rules write_rules : List Rule) → Access → Rule

@@ -10,7 +10,7 @@ loop-code-init c = walking_start _ _ _ _ c.args.file.now.located _
 pub walk_by-requires : goal.walk_by-requires
 walk_by-requires c = (
   c.loop-code-test.true,
-  c.fill_rules.ensures,
+  c.fill_rules.ensures.lawful,
   (report_inside_limit _ _ _ _ c.args.file.now.located _ _ _ _ c.loop-code.invariant c.loop-code-test.true),
   omega (arith, c.requires.0, c.loop-code.invariant.report_length),
 )
